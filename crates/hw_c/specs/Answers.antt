@@ -1,4 +1,4 @@
--- What stands in the structs that calls fill.
+-- The fields of the structs that calls fill.
 -- Source: ours.
 use Rattle.std.specs.Prelude.{ℕ, Bool, true, false, List, length, is_some, Option, Some, None}
 use Rattle.hw_types.specs.declared.unit.Digest.{Digest}
@@ -31,15 +31,16 @@ use Rattle.hw_c.specs.declared.needs.Missing.{Missing}
 
 -- ---- signatures
 
--- nobody
+-- the place of a signer that is not there
 abbrev pub no_signer : Signer
 no_signer = record { validator = 0; unit = zeros; signature = zeros }
 
--- the creator signed the unit's digest
+-- the creator of a unit, the unit's digest, and the creator's signature of that
 abbrev pub signer_of : SignedUnit → Signer
 signer_of s = record { validator = s.unit.creator; unit = (digest_of s.unit).0; signature = s.signature.0 }
 
--- Who signed a vertex, and what: 0 a unit, 1 evidence with its two units, 2 an endorsement of the unit.
+-- Who signed a vertex, and which units. The kind is 0 for a unit, 1 for evidence with its two units, and 2 for an
+-- endorsement of a unit.
 abbrev pub signed_of : Vertex → Signed
 signed_of (vertex.Unit u) = record { kind = 0; first = signer_of u; second = no_signer }
 signed_of (vertex.Evidence e) = record { kind = 1; first = signer_of e.left; second = signer_of e.right }
@@ -71,13 +72,14 @@ summary_of c = record {
   fork = digest_bytes (fork_in c);
 }
 
--- 0 nothing is known of the validator, 1 this is its latest unit, 2 it equivocated
+-- kinds: 0 nothing is observed of the validator, 1 this is its latest unit, 2 it equivocated
 abbrev pub observed_of : Obs → Observed
 observed_of obs.Absent = record { kind = 0; unit = zeros }
 observed_of (obs.Correct d) = record { kind = 1; unit = d.0 }
 observed_of obs.Faulty = record { kind = 2; unit = zeros }
 
--- 0 unknown, 1 settled under this number, 2 parked for so many needs, 3 dropped for the rule of this number
+-- kinds: 0 unknown, 1 settled under this number, 2 parked with this number of needs, 3 dropped by the rule of this
+-- number
 abbrev pub placed_of : Place → Placed
 placed_of place.Unknown = record { kind = 0; number = 0 }
 placed_of (place.Settled number) = record { kind = 1; number = number.0 }
@@ -88,7 +90,7 @@ placed_of (place.Dropped rule) = record { kind = 3; number = rule_number rule }
 abbrev pub decided_of : Decision → Decided
 decided_of d = record { block = d.block.0; height = d.height; quorum = d.quorum; at = d.at; level = d.level }
 
--- 0 the unit has to settle, 1 the validator has to be known as faulty, 2 the unit has to be endorsed
+-- kinds: 0 the unit has to settle, 1 the validator has to be known as faulty, 2 the unit has to be endorsed
 abbrev pub missing_of : Need → Missing
 missing_of (need.Unit d) = record { kind = 0; validator = 0; digest = d.0 }
 missing_of (need.Evidence v) = record { kind = 1; validator = v; digest = zeros }
@@ -96,7 +98,7 @@ missing_of (need.Endorsed d) = record { kind = 2; validator = 0; digest = d.0 }
 
 -- ---- a step
 
--- 0 a proposal, 1 a confirmation, 2 a witness
+-- kinds: 0 a proposal, 1 a confirmation, 2 a witness
 abbrev pub plan_number : PlanKind → ℕ
 plan_number Propose = 0
 plan_number Confirm = 1

@@ -1,4 +1,4 @@
--- What each call answers of a node, or of bytes.
+-- What each call answers about a node, or about bytes.
 -- Source: ours.
 use Rattle.std.specs.Prelude.{◌≡◌, ℕ, ◌<◌, ◌≤◌, Bool, List, [], ◌++◌, length, map, take, drop, slice_get, Some, None, Result, Ok, Err}
 use Rattle.hw_types.specs.declared.unit.WireUnit.{WireUnit}
@@ -27,21 +27,21 @@ use Rattle.hw_c.specs.declared.calls.Decided.{Decided}
 use Rattle.hw_c.specs.declared.needs.Missing.{Missing}
 use Rattle.hw_c.specs.Answers.{signed_of, summary_of, observed_of, placed_of, decided_of, missing_of}
 
--- there was no memory, and no other fault is told
+-- the call ran out of memory; it answers no other fault
 abbrev pub IsWant : Fault → Type 0
 IsWant fault.OutOfMemory = Unit {0}
 IsWant f = ⊥
 
--- ---- of bytes
+-- ---- about bytes
 
--- a node that has received nothing, of the configuration that the bytes spell; or why there is none
+-- A node of the configuration that the bytes spell, which has received nothing. Or why there is no node.
 abbrev pub IsNodeOf : List ℕ → Result CoreState Fault → Type 0
 IsNodeOf bytes (Ok core) = (config_of bytes ≡ Ok core.config) × (config_fault core.config ≡ None) × (core.journal ≡ []) × (core.asked ≡ None)
 IsNodeOf bytes (Err (fault.Bytes e)) = IsErrorOf (config_of bytes) e
 IsNodeOf bytes (Err (fault.Config limit)) = (config : Config) × (config_of bytes ≡ Ok config) × (config_fault config ≡ Some limit)
 IsNodeOf bytes (Err f) = IsWant f
 
--- who signed the vertex that the bytes spell, and what
+-- who signed the vertex that the bytes spell, and which units
 abbrev pub IsSigned : List ℕ → Result Signed Fault → Type 0
 IsSigned bytes (Ok signed) = (v : Vertex) × (vertex_of bytes ≡ Ok v) × (signed ≡ signed_of v)
 IsSigned bytes (Err (fault.Bytes e)) = IsErrorOf (vertex_of bytes) e
@@ -53,16 +53,17 @@ IsWithSignature unit signature (Ok bytes) = (u : WireUnit) × (unit_of unit ≡ 
 IsWithSignature unit signature (Err (fault.Bytes e)) = IsErrorOf (unit_of unit) e
 IsWithSignature unit signature (Err f) = IsWant f
 
--- ---- of a node
+-- ---- about a node
 
--- What a delivery of a vertex is answered, and the node after it: that of the definitions. After a refusal the node is as it was.
+-- The answer to a delivery of a vertex and the node after it, both as the definitions give them. After a refusal the
+-- node is as it was.
 abbrev pub IsVertexDelivery : CoreState → Vertex → Bool → Result Receipt Fault → CoreState → Type 0
 IsVertexDelivery old v verdict (Ok receipt) new = (answer_in old v verdict ≡ Ok receipt) × (new ≡ after_in old v verdict)
 IsVertexDelivery old v verdict (Err (fault.Refused cause)) new = IsRefusal cause (answer_in old v verdict) × (new ≡ old)
 IsVertexDelivery old v verdict (Err f) new = ⊥
 
--- What a delivery of bytes is answered, and the node after it: that of the definitions for the vertex that the bytes spell. After a
--- fault the node is as it was.
+-- The answer to a delivery of bytes and the node after it. Both are as the definitions give them for the vertex that
+-- the bytes spell. After a fault the node is as it was.
 abbrev pub IsDelivery : CoreState → List ℕ → Bool → Result Receipt Fault → CoreState → Type 0
 IsDelivery old bytes verdict (Ok receipt) new = (v : Vertex) × (vertex_of bytes ≡ Ok v) × (answer_in old v verdict ≡ Ok receipt) × (new ≡ after_in old v verdict)
 IsDelivery old bytes verdict (Err (fault.Bytes e)) new = IsErrorOf (vertex_of bytes) e × (new ≡ old)
@@ -80,7 +81,7 @@ abbrev pub IsSummary : CoreState → Result Summary Fault → Type 0
 IsSummary c (Ok summary) = summary ≡ summary_of c
 IsSummary c (Err f) = ⊥
 
--- what it observes of the validator
+-- what the node observes of the validator
 abbrev pub IsObserved : CoreState → ℕ → Result Observed Fault → Type 0
 IsObserved c v (Ok observed) = (v < length c.config.weights) × (observed ≡ observed_of (slot (panorama_in c) v))
 IsObserved c v (Err fault.OutOfRange) = length c.config.weights ≤ v
@@ -97,7 +98,7 @@ IsDecided c index (Ok decided) = (d : Decision) × (slice_get (decided_in c) ind
 IsDecided c index (Err fault.Nothing) = length (decided_in c) ≤ index
 IsDecided c index (Err f) = ⊥
 
--- the first needs that parked units miss, as many as fit, and behind them what was there
+-- the first needs that parked units miss, as many as fit, and after them what was there before
 abbrev pub IsUnmet : CoreState → List Missing → List Missing → Result ℕ Fault → Type 0
 IsUnmet c old new (Ok count) = (count ≤ length old) × (new ≡ map missing_of (take (length old) (unmet_in c)) ++ drop count old)
 IsUnmet c old new (Err f) = IsWant f × (new ≡ old)

@@ -9,28 +9,30 @@ use Rattle.hw_c.specs.declared.sent.Delivered.{Delivered}
 use Rattle.hw_c.specs.Calls.{IsNodeOf}
 use Rattle.hw_c.specs.Deliveries.{AreAnswered}
 
--- an empty handle gets a new node of the configuration that the bytes spell, or stays empty; a full one stays as it is
+-- An empty handle gets a new node of the configuration that the bytes spell. After a fault it stays empty. A full
+-- handle stays as it is.
 abbrev pub Begins : Option CoreState → List ℕ → Result Unit Fault → Option CoreState → Type 0
 Begins (Some old) bytes r new = (r ≡ Err fault.Full) × (new ≡ Some old)
 Begins None bytes (Ok done) new = (core : CoreState) × (new ≡ Some core) × IsNodeOf bytes (Ok core)
 Begins None bytes (Err f) new = (new ≡ None) × IsNodeOf bytes (Err f)
 
--- the handle is empty then, and it was full where the call is done
+-- The handle is empty after the call. The call succeeds exactly when the handle held a node.
 abbrev pub Ends : Option CoreState → Result Unit Fault → Option CoreState → Type 0
 Ends None r new = (r ≡ Err fault.Empty) × (new ≡ None)
 Ends (Some old) r new = (r ≡ Ok tt) × (new ≡ None)
 
--- A node takes the vertices in order, and each is answered. Where there is no node, or not as many answers as vertices, nothing changes.
+-- The vertices are delivered to the node in order, with an answer to each. Nothing changes where there is no node, or
+-- where there are not as many places for answers as vertices.
 abbrev pub Delivers : Option CoreState → List ℕ → List Sent → List Delivered → Result Unit Fault → List Delivered → Option CoreState → Type 0
 Delivers None bytes sent before r delivered new = (r ≡ Err fault.Empty) × (delivered ≡ before) × (new ≡ None)
 Delivers (Some old) bytes sent before r delivered new = (core : CoreState) × (new ≡ Some core) × AreAnswered old bytes sent before r delivered core
 
--- a node is read, and stays as it is
+-- the call reads a node, which stays as it is
 abbrev pub Reads : {A : Type 0} → (CoreState → Result A Fault → Type 0) → Option CoreState → Result A Fault → Option CoreState → Type 0
 Reads Is None r new = (r ≡ Err fault.Empty) × (new ≡ None)
 Reads Is (Some core) r new = Is core r × (new ≡ Some core)
 
--- two nodes are read, and stay as they are
+-- the call reads two nodes, which stay as they are
 abbrev pub ReadsBoth : {A : Type 0} → (CoreState → CoreState → Result A Fault → Type 0) → Option CoreState → Option CoreState → Result A Fault → Option CoreState → Option CoreState → Type 0
 ReadsBoth Is None right r left_new right_new = (r ≡ Err fault.Empty) × (left_new ≡ None) × (right_new ≡ right)
 ReadsBoth Is (Some left) None r left_new right_new = (r ≡ Err fault.Empty) × (left_new ≡ Some left) × (right_new ≡ None)

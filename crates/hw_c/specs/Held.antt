@@ -1,13 +1,15 @@
--- What a handle owns: the box that it points to, where it holds one, and the right to free it; and where it holds none, its pointer is null.
+-- What a handle owns. A handle that holds a node owns the box that it points to, and the right to free it. The pointer
+-- of a handle without a node is null.
 use base.Fml.{Fml, feq}
 use base.Stored.{Coded}
 use denote.RawPtr.{Ptr, null_ptr}
-use Rattle.std.specs.Prelude.{Option, Some, None}
+use Rattle.std.specs.Prelude.{Option, Some, None, Result, Ok, Err}
 use Rattle.std.specs.Coded.{coded_option}
 use Rattle.std.specs.Global.{Global}
 use Rattle.std.specs.Box.Ownership.{box_owns}
 use Rattle.std_alloc.specs.declared.boxed.Box.{Box}
 use Rattle.std_heap.specs.contracts.GlobalAllocator.TheImpl.{ghosts}
+use Rattle.hw_c.specs.declared.codes.Fault.{Fault}
 use Rattle.hw_c.specs.declared.content.Content.{Content}
 use Rattle.hw_core.specs.contracts.node.Core.{the_row}
 
@@ -15,11 +17,12 @@ use Rattle.hw_core.specs.contracts.node.Core.{the_row}
 abbrev pub Held : Type 0
 Held = the_row.Denot
 
--- how a pointer that may be null spells a held node, or none
+-- for the prover: the code of a held node, or of none
 abbrev pub held_coded : Coded (Option Held)
 held_coded = coded_option the_row.coded
 
--- what is owned at a pointer: the box of the held node with the right to free it, or nothing where there is none
+-- What is owned at a pointer: the box of the held node, with the right to free it. Where no node is held, the pointer
+-- is null and owns nothing.
 unfoldable pub held_owns : Global → Ptr → Option Held → Fml
 held_owns alloc at None = feq Ptr at null_ptr
 held_owns alloc at (Some held) = box_owns (ghosts.dealloc_token alloc) the_row at held
@@ -30,6 +33,6 @@ value_in None = None
 value_in (Some c) = Some c.value
 
 -- the value of the box, where there is one
-abbrev pub boxed_in : Option (Box Held Global) → Option Held
-boxed_in None = None
-boxed_in (Some b) = Some b.value
+abbrev pub boxed_in : Result (Box Held Global) Fault → Option Held
+boxed_in (Ok b) = Some b.value
+boxed_in (Err f) = None

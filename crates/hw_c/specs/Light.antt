@@ -1,4 +1,4 @@
--- What is answered of certificates.
+-- What calls answer about certificates.
 -- Source: ours.
 use Rattle.std.specs.Prelude.{◌≡◌, ◌≢◌, ℕ, ◌≤◌, Bool, List, length, slice_get, Some, Result, Ok, Err}
 use Rattle.hw_types.specs.declared.unit.Digest.{Digest}
@@ -23,8 +23,9 @@ use Rattle.hw_c.specs.Answers.{signed_of}
 use Rattle.hw_c.specs.Calls.{IsWant}
 use Rattle.hw_c.specs.Told.{config_status, cause_status}
 
--- The certificate of the decided block of that place, which is answered yes where its signatures are right; or why there is none:
--- the place is none, the block doesn't stand now, or there would be more vertices than a journal may have.
+-- The certificate of the decided block of that place. A check of it answers yes where its signatures are right. Or why
+-- there is none. No block is decided at that place, or the node can't certify the block now. Or the certificate would
+-- have more vertices than a journal may have.
 abbrev pub IsCertificate : CoreState → ℕ → Result (List ℕ) Fault → Type 0
 IsCertificate c index (Ok bytes) = (made : Certificate) × IsMade c index made × IsYesFor made × SpellsCertificate bytes made
 IsCertificate c index (Err why.OutOfRange) = length (decided_in c) ≤ index
@@ -32,14 +33,15 @@ IsCertificate c index (Err why.Nothing) = IsCertifiedAs c index NotNow
 IsCertificate c index (Err why.TooLong) = (count : ℕ) × IsTooLong c index count
 IsCertificate c index (Err f) = IsWant f
 
--- who signed the vertex of that place in the certificate that the bytes spell, and what
+-- who signed the vertex of that place in the certificate that the bytes spell, and which units
 abbrev pub IsCertifiedSigned : List ℕ → ℕ → Result Signed Fault → Type 0
 IsCertifiedSigned bytes place (Ok signed) = (c : Certificate) × (certificate_of bytes ≡ Ok c) × ((v : Vertex) × (slice_get c.vertices place ≡ Some v) × (signed ≡ signed_of v))
 IsCertifiedSigned bytes place (Err (why.Certificate e)) = IsErrorOf (certificate_of bytes) e
 IsCertifiedSigned bytes place (Err why.Nothing) = (c : Certificate) × (certificate_of bytes ≡ Ok c) × (length c.vertices ≤ place)
 IsCertifiedSigned bytes place (Err f) = IsWant f
 
--- 0 yes; no, since 1 its configuration breaks a limit, 2 a vertex is refused, 3 the faulty weigh too much, 4 the block doesn't stand
+-- Kind 0 is yes, and the others are no. Kind 1: the configuration breaks a limit. Kind 2: a vertex is refused. Kind 3:
+-- the faulty validators weigh more than the threshold. Kind 4: the block has no summit.
 abbrev pub judged_of : Checked → Digest → Digest → Judged
 judged_of (Yes core) block instance = record { kind = 0; status = 0; number = 0; weight = 0; block = block.0; instance = instance.0 }
 judged_of (No (fault.Config limit)) block instance = record { kind = 1; status = config_status limit; number = 0; weight = 0; block = block.0; instance = instance.0 }
@@ -47,7 +49,7 @@ judged_of (No (fault.Refused number cause)) block instance = record { kind = 2; 
 judged_of (No (fault.Exceeded weight)) block instance = record { kind = 3; status = 0; number = 0; weight = weight; block = block.0; instance = instance.0 }
 judged_of (No fault.Unstood) block instance = record { kind = 4; status = 0; number = 0; weight = 0; block = block.0; instance = instance.0 }
 
--- what the certificate that the bytes spell is answered with these verdicts, and what a yes shows
+-- the answer to the certificate that the bytes spell with these verdicts, and what a yes proves
 abbrev pub IsJudged : List ℕ → List Bool → Result Judged Fault → Type 0
 IsJudged bytes verdicts (Ok judged) =
     (c : Certificate) × (certificate_of bytes ≡ Ok c) × (length verdicts ≡ length c.vertices)

@@ -1,4 +1,4 @@
--- What a node has for a peer that misses something.
+-- What a node has for a peer that misses a unit, evidence or endorsements.
 -- Source: ours.
 use Rattle.std.specs.Prelude.{◌≡◌, ℕ, ◌≤◌, zero, suc, List, length, slice_get, Option, Some, None, Result, Ok, Err}
 use Rattle.hw_types.specs.declared.unit.Need.{Need}
@@ -19,7 +19,7 @@ need_of_kind (suc zero) m = Some (need.Evidence m.validator)
 need_of_kind (suc (suc zero)) m = Some (need.Endorsed (record { 0 = m.digest }))
 need_of_kind (suc (suc (suc kind))) m = None
 
--- what is missed, where its kind says so
+-- the need that the fields name, where the kind is one of those
 abbrev pub need_of : Missing → Option Need
 need_of m = need_of_kind m.kind m
 

@@ -11,7 +11,7 @@ use Rattle.hw_c.specs.declared.codes.Fault.TheVariants as fault
 use Rattle.hw_c.specs.declared.settings.Settings.{Settings}
 use Rattle.hw_c.specs.Calls.{IsWant}
 
--- who leads: by the table, or drawn by the key
+-- the leaders: from the table, or drawn by the key
 abbrev pub leaders_with : Settings → List ℕ → Leaders
 leaders_with s table = if s.is_drawn == 0 then Table table else Drawn s.key
 
@@ -33,7 +33,7 @@ config_with s weights table = record {
   end = end_with s;
 }
 
--- the spelling of that configuration, which keeps all limits; or the first that it breaks
+-- The spelling of that configuration, which keeps all limits. Or the first limit that it breaks.
 abbrev pub IsConfig : Settings → List ℕ → List ℕ → Result (List ℕ) Fault → Type 0
 IsConfig s weights table (Ok bytes) = (config_fault (config_with s weights table) ≡ None) × SpellsConfig bytes (config_with s weights table)
 IsConfig s weights table (Err (fault.Config limit)) = config_fault (config_with s weights table) ≡ Some limit

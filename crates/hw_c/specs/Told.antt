@@ -1,4 +1,4 @@
--- What the numbers of an answer mean.
+-- The numbers in an answer: its status, and the details of that.
 -- Source: ours.
 use Rattle.std.specs.Prelude.{◌≡◌, ℕ, ◌+◌, List, replicate, Result, Ok, Err}
 use Rattle.hw_types.specs.declared.answers.CodecError.{CodecError}
@@ -17,7 +17,7 @@ use Rattle.hw_c.specs.declared.codes.Answer.{Answer}
 use Rattle.hw_c.specs.declared.codes.Fault.{Fault}
 use Rattle.hw_c.specs.declared.codes.Fault.TheVariants as fault
 
--- 32 bytes that say nothing
+-- the 32 bytes of a digest or signature that is not there
 abbrev pub zeros : List ℕ
 zeros = replicate 32 0
 
@@ -41,7 +41,7 @@ codec_place (codec.TooLong at) = at
 codec_place (codec.OutOfRange at) = at
 codec_place codec.OutOfMemory = 0
 
--- the limit that a configuration breaks
+-- which limit a configuration breaks
 abbrev pub config_status : ConfigFault → ℕ
 config_status limit.Validators = 513
 config_status (limit.ZeroWeight v) = 514
@@ -53,7 +53,7 @@ config_status limit.LeaderTable = 519
 config_status limit.Records = 520
 config_status limit.Parked = 521
 
--- the validator without weight
+-- the validator without weight, where that is the limit
 abbrev pub config_place : ConfigFault → ℕ
 config_place (limit.ZeroWeight v) = v
 config_place limit.Validators = 0
@@ -78,7 +78,7 @@ cause_status cause.RecordsFull = 801
 cause_status cause.ParkFull = 802
 cause_status cause.OutOfMemory = 1
 
--- the digest that another unit has
+-- the digest that two units share, where they clash
 abbrev pub cause_digest : Cause → List ℕ
 cause_digest (cause.Clash known) = known.0
 cause_digest cause.BadSignature = zeros
@@ -99,7 +99,8 @@ cert_status (cert.BadConfig e) = codec_status e + 1040
 cert_status (cert.BadVertex at e) = codec_status e + 1056
 cert_status cert.OutOfMemory = 1
 
--- where the refused field begins: in the configuration where that is refused, and at its length where a vertex is
+-- Where the refused field begins. In a configuration that is refused, the place counts from its first byte. Of a vertex
+-- that is refused, the place is that of its length.
 abbrev pub cert_place : CertError → ℕ
 cert_place cert.BadMagic = 0
 cert_place (cert.Version v) = 4
@@ -110,7 +111,7 @@ cert_place (cert.BadConfig e) = codec_place e
 cert_place (cert.BadVertex at e) = at
 cert_place cert.OutOfMemory = 0
 
--- why a call did nothing
+-- the status of a fault
 abbrev pub status_of : Fault → ℕ
 status_of fault.Empty = 4
 status_of fault.Full = 5
@@ -124,11 +125,11 @@ status_of (fault.Config f) = config_status f
 status_of (fault.Refused c) = cause_status c
 status_of (fault.Certificate e) = cert_status e
 
--- nothing stands behind the status
+-- the status has no details
 abbrev pub blank : Answer
 blank = record { kind = 0; count = 0; at = 0; digest = zeros }
 
--- what stands behind it
+-- the details of a fault's status
 abbrev pub answer_of : Fault → Answer
 answer_of (fault.Bytes e) = record blank { at = codec_place e }
 answer_of (fault.Config f) = record blank { at = config_place f }
@@ -144,22 +145,23 @@ answer_of fault.OtherInstance = blank
 
 -- ---- what a call answers
 
--- 0 where it is done
+-- 0 where the call succeeded
 abbrev pub status : {A : Type 0} → Result A Fault → ℕ
 status (Ok x) = 0
 status (Err f) = status_of f
 
--- what stands behind the status: nothing where it is done
+-- the details of a status: none where the call succeeded
 abbrev pub behind : {A : Type 0} → Result A Fault → Answer
 behind (Ok x) = blank
 behind (Err f) = answer_of f
 
--- the value goes out where it is done, and else what was there stays
+-- the value where the call succeeded, and else what was there before
 abbrev pub put : {A : Type 0} → Result A Fault → A → A
 put (Ok x) old = x
 put (Err f) old = old
 
--- what became of a vertex: 0 so many units settled; 1 it waits for so many needs; 2 it breaks the rule of that number; 3 it was there
+-- What became of a vertex. Kind 0: this number of units settled. Kind 1: it waits for this number of needs. Kind 2: it
+-- breaks the rule of this number. Kind 3: the node had it already.
 abbrev pub receipt_answer : Receipt → Answer
 receipt_answer (receipt.Admitted settled) = record blank { kind = 0; count = settled }
 receipt_answer (receipt.Parked missing) = record blank { kind = 1; count = missing }
@@ -171,10 +173,10 @@ abbrev pub delivery_answer : Result Receipt Fault → Answer
 delivery_answer (Ok r) = receipt_answer r
 delivery_answer (Err f) = answer_of f
 
--- the value went out, with its status
+-- the value is in the caller's struct where the call succeeded, and the status is the answer
 abbrev pub Puts : {A : Type 0} → Result A Fault → A → A → ℕ → Type 0
 Puts r old new said = (new ≡ put r old) × (said ≡ status r)
 
--- and what stands behind it
+-- the same, and the details of the status
 abbrev pub PutsWith : {A : Type 0} → Result A Fault → A → A → Answer → ℕ → Type 0
 PutsWith r old new answer said = Puts r old new said × (answer ≡ behind r)

@@ -1,16 +1,15 @@
-//! What two nodes say of each other.
+//! Audits of two nodes.
 
 ghost use Rattle.std.specs.Prelude.{◌≡◌, length};
-ghost use Rattle.hw_c.specs.{Audits.{audited_of, IsAudit, IsAuditPut}, Told.{status}};
+ghost use Rattle.hw_c.specs.Audits.{audited_of, IsAudit};
 
-use crate::codes::{Fault, OK, status_of};
-use crate::put::copy_bytes;
+use crate::codes::Fault;
+use crate::put::WithBytes;
 use hw_audit::{AuditError, Verdict, audit, audit_text};
 use hw_core::Core;
-use hw_types::Bytes;
 use std::alloc::Global;
 
-/// What two nodes say of each other, and how many bytes the text of it has.
+/// What an audit of two nodes found, and how many bytes its text has.
 #[repr(C)]
 #[derive(Clone, Copy)]
 pub struct Audited {
@@ -21,13 +20,6 @@ pub struct Audited {
     pub weight: u64,
     pub left: [u8; 32],
     pub right: [u8; 32],
-}
-
-/// What two nodes say of each other, and that as text.
-#[derive(Drop)]
-pub struct AuditText {
-    pub audited: Audited,
-    pub text: Bytes,
 }
 
 fn audited_of(verdict: &Verdict, length: u64) -> Audited
@@ -65,8 +57,8 @@ fn audited_of(verdict: &Verdict, length: u64) -> Audited
     audited
 }
 
-/// What the journals of two nodes say of each other.
-pub fn audit_of(alloc: Global, left: &Core, right: &Core) -> Result<AuditText, Fault>
+/// Audits the journals of two nodes against each other. `OtherInstance` where their configurations differ.
+pub fn audit_of(alloc: Global, left: &Core, right: &Core) -> Result<WithBytes<Audited>, Fault>
     ensures { IsAudit left.now right.now result }
 {
     let verdict = match audit(alloc, left, right) {
@@ -75,21 +67,8 @@ pub fn audit_of(alloc: Global, left: &Core, right: &Core) -> Result<AuditText, F
         Err(AuditError::OutOfMemory) => return Err(Fault::OutOfMemory),
     };
     let text = audit_text(alloc, &verdict, left.state().config())?;
-    let audited = audited_of(&verdict, text.len() as u64);
-    Ok(AuditText { audited, text })
-}
-
-/// Puts an audit, where there is one, and answers the status.
-pub fn put_audit(outcome: Result<AuditText, Fault>, audited: &mut Audited, buf: &mut [u8]) -> u32
-    ensures status { result ≡ status outcome }
-    ensures put { IsAuditPut outcome audited.old audited.new buf.old buf.new }
-{
-    match outcome {
-        Ok(audit) => {
-            *audited = audit.audited;
-            copy_bytes(audit.text.as_slice(), buf);
-            OK
-        }
-        Err(fault) => status_of(fault),
-    }
+    Ok(WithBytes {
+        value: audited_of(&verdict, text.len() as u64),
+        bytes: text,
+    })
 }

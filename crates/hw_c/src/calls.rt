@@ -1,4 +1,4 @@
-//! What the exports do with a node.
+//! What the exports do with a node, once it is out of its handle.
 
 ghost use Rattle.std.specs.Prelude.{◌≡◌, true, is_some, Option};
 ghost use Rattle.hw_types.specs.declared.unit.Digest.{Digest};
@@ -17,7 +17,7 @@ use hw_text::rule_number;
 use hw_types::{Bytes, Decision, Digest, Obs, Receipt, Vertex};
 use std::alloc::Global;
 
-/// How much a node has of what, the weight of its faulty validators, and its fork choice.
+/// The counts of a node, the weight of its faulty validators, and its fork choice.
 #[repr(C)]
 #[derive(Clone, Copy)]
 pub struct Summary {
@@ -61,7 +61,8 @@ pub struct Decided {
     pub level: u32,
 }
 
-/// A node of the configuration that the bytes spell.
+/// Makes a node of the configuration that the bytes spell. `Bytes` where they spell none, and `Config` where it breaks
+/// a limit.
 pub fn make(alloc: Global, config: &[u8]) -> Result<Core, Fault>
     ensures { IsNodeOf config.now result }
 {
@@ -73,7 +74,7 @@ pub fn make(alloc: Global, config: &[u8]) -> Result<Core, Fault>
     }
 }
 
-/// Delivers the vertex that the bytes spell. The name is that of its unit, where it is a unit with a right verdict.
+/// Delivers the vertex that the bytes spell. Where it is a unit with a right verdict, the name is that of this unit.
 pub fn deliver_named(
     alloc: Global,
     core: &mut Core,
@@ -92,7 +93,7 @@ pub fn deliver_named(
     }
 }
 
-/// Delivers the vertex that the bytes spell; where it is a unit, its name is worked out.
+/// Delivers the vertex that the bytes spell. Where it is a unit, this works out its name.
 pub fn deliver_unnamed(
     alloc: Global,
     core: &mut Core,
@@ -105,7 +106,7 @@ pub fn deliver_unnamed(
     take(core, vertex, verdict)
 }
 
-/// Takes a vertex whose verdict is right. The name is that of its unit, where it is one.
+/// Delivers a vertex whose verdict is right. Where it is a unit, the name is that of this unit.
 fn take_named(core: &mut Core, vertex: Vertex, name: Digest) -> Result<Receipt, Fault>
     requires fits { VertexFits vertex }
     requires name { (s : SignedUnit) → vertex ≡ vertices.Unit s → name ≡ digest_of s.unit }
@@ -120,7 +121,7 @@ fn take_named(core: &mut Core, vertex: Vertex, name: Digest) -> Result<Receipt, 
     }
 }
 
-/// Takes a vertex with its verdict.
+/// Delivers a vertex with its verdict.
 fn take(core: &mut Core, vertex: Vertex, verdict: bool) -> Result<Receipt, Fault>
     requires { VertexFits vertex }
     ensures { IsVertexDelivery core.old vertex verdict result core.new }
@@ -131,7 +132,7 @@ fn take(core: &mut Core, vertex: Vertex, verdict: bool) -> Result<Receipt, Fault
     }
 }
 
-/// The journal's entry of that place, as bytes.
+/// The journal's entry of that place, as bytes. `Nothing` where the journal is shorter.
 pub fn entry(alloc: Global, core: &Core, place: u64) -> Result<Bytes, Fault>
     ensures { IsEntry core.now place result }
 {
@@ -156,7 +157,7 @@ fn digest_bytes(digest: Option<Digest>) -> [u8; 32]
     }
 }
 
-/// How much the node has of what, the weight of its faulty validators, and its fork choice.
+/// The counts of the node, the weight of its faulty validators, and its fork choice.
 pub fn summarize(core: &Core) -> Result<Summary, Fault>
     ensures { IsSummary core.now result }
 {
@@ -194,7 +195,7 @@ fn observed_of(observation: Obs) -> Observed
     }
 }
 
-/// What the node observes of the validator.
+/// What the node observes of the validator. `OutOfRange` where the configuration has no such validator.
 pub fn observation(core: &Core, validator: u32) -> Result<Observed, Fault>
     ensures { IsObserved core.now validator result }
 {
@@ -245,7 +246,7 @@ fn decided_of(decision: &Decision) -> Decided
     }
 }
 
-/// The decided block of that place.
+/// The decided block of that place. `Nothing` where fewer blocks are decided.
 pub fn decision(core: &Core, index: u64) -> Result<Decided, Fault>
     ensures { IsDecided core.now index result }
 {

@@ -1,4 +1,4 @@
-//! What calls answer: a status, and what stands behind it.
+//! What calls answer: a status, and details of it.
 
 ghost use Rattle.std.specs.Prelude.{◌≡◌, ◌≤◌};
 ghost use Rattle.hw_c.specs.Told.{codec_status, codec_place, config_status, config_place, cause_status, cause_digest, cert_status, cert_place, status_of, answer_of, zeros};
@@ -8,13 +8,50 @@ use hw_light::CertError;
 use hw_text::rule_number;
 use hw_types::{Cause, CodecError, ConfigFault, OutOfMemory, PairFault};
 
-/// It is done.
+/// Why a call did nothing.
+#[derive(Clone, Copy)]
+pub enum Fault {
+    /// The handle holds no node.
+    Empty,
+    /// The handle holds a node already.
+    Full,
+    /// The call ran out of memory.
+    OutOfMemory,
+    /// Nothing is there.
+    Nothing,
+    /// A number is outside its range.
+    OutOfRange,
+    /// What was asked for is longer than its format or its journal allows.
+    TooLong,
+    /// The two nodes are of different configurations.
+    OtherInstance,
+    /// The bytes are no spelling.
+    Bytes(CodecError),
+    /// The configuration breaks this limit.
+    Config(ConfigFault),
+    /// The vertex was refused.
+    Refused(Cause),
+    /// The bytes are no certificate.
+    Certificate(CertError),
+}
+
+/// Details of a status. A field that a status does not need is 0.
+#[repr(C)]
+#[derive(Clone, Copy)]
+pub struct Answer {
+    pub kind: u32,
+    pub count: u32,
+    pub at: u64,
+    pub digest: [u8; 32],
+}
+
+/// The call succeeded.
 pub const OK: u32 = 0;
 
-/// There was no memory, and nothing has changed.
+/// The call ran out of memory, and nothing has changed.
 pub const OUT_OF_MEMORY: u32 = 1;
 
-/// There is none.
+/// Nothing is there.
 pub const NONE: u32 = 2;
 
 /// A number is outside its range.
@@ -32,19 +69,19 @@ pub const TOO_LONG: u32 = 6;
 /// The two nodes are of different configurations.
 pub const OTHER_INSTANCE: u32 = 7;
 
-/// The bytes are no spelling: the last digit says why, and the place stands in `at`.
+/// The bytes are no spelling: the last digit says why, and `at` has the place.
 pub const BAD_BYTES: u32 = 0x100;
 
-/// The configuration breaks a limit: the last digit says which, from 1 on.
+/// The configuration breaks a limit: the last digit says which one, counted from 1.
 pub const BAD_CONFIG: u32 = 0x200;
 
 /// The verdict was no.
 pub const BAD_SIGNATURE: u32 = 0x300;
 
-/// An evidence is no pair: the last digit says why.
+/// The two units of an evidence are no equivocation: the last digit says why.
 pub const BAD_PAIR: u32 = 0x310;
 
-/// Another unit has this digest, which stands in `digest`.
+/// Another unit has this digest. The field `digest` has it.
 pub const CLASH: u32 = 0x320;
 
 /// The journal is full.
@@ -53,7 +90,7 @@ pub const RECORDS_FULL: u32 = 0x321;
 /// The park is full.
 pub const PARK_FULL: u32 = 0x322;
 
-/// The unit breaks a rule of its own: the number of the rule is added.
+/// The unit breaks a rule that concerns it alone. The status is this plus the number of the rule.
 pub const LOCAL_RULE: u32 = 0x400;
 
 /// The bytes are no certificate: the last digit says why.
@@ -64,33 +101,6 @@ pub const BAD_CERTIFIED_CONFIG: u32 = 0x510;
 
 /// A vertex in a certificate is no spelling: the last digit says why.
 pub const BAD_CERTIFIED_VERTEX: u32 = 0x520;
-
-/// Why a call did nothing.
-#[derive(Clone, Copy)]
-pub enum Fault {
-    /// The handle holds no node.
-    Empty,
-    /// The handle holds a node already.
-    Full,
-    /// There was no memory.
-    OutOfMemory,
-    /// There is none.
-    Nothing,
-    /// A number is outside its range.
-    OutOfRange,
-    /// What was asked for is longer than its format or its journal allows.
-    TooLong,
-    /// The two nodes are of different configurations.
-    OtherInstance,
-    /// The bytes are no spelling.
-    Bytes(CodecError),
-    /// The configuration breaks this limit.
-    Config(ConfigFault),
-    /// The vertex was refused.
-    Refused(Cause),
-    /// The bytes are no certificate.
-    Certificate(CertError),
-}
 
 impl From<OutOfMemory> for Fault {
     ghost from_gives = { λ _ f. f ≡ faults.OutOfMemory };
@@ -114,16 +124,6 @@ impl From<CodecError> for Fault {
     fn from(e: CodecError) -> Fault {
         Fault::Bytes(e)
     }
-}
-
-/// What stands behind a status. What a status doesn't need is 0.
-#[repr(C)]
-#[derive(Clone, Copy)]
-pub struct Answer {
-    pub kind: u32,
-    pub count: u32,
-    pub at: u64,
-    pub digest: [u8; 32],
 }
 
 fn codec_status(error: CodecError) -> u32
@@ -153,7 +153,7 @@ fn codec_place(error: CodecError) -> u64
     }
 }
 
-/// The status of a limit of configurations.
+/// The status of a configuration that breaks this limit.
 pub fn config_status(fault: ConfigFault) -> u32
     ensures { result ≡ config_status fault }
 {
@@ -252,7 +252,7 @@ pub fn status_of(fault: Fault) -> u32
     }
 }
 
-/// An answer of which nothing is needed.
+/// An answer without details.
 pub fn blank() -> Answer
     ensures { result ≡ record { kind = 0; count = 0; at = 0; digest = zeros } }
 {
@@ -264,7 +264,7 @@ pub fn blank() -> Answer
     }
 }
 
-/// What stands behind the status of a fault.
+/// Details of a fault's status.
 pub fn answer_of(fault: Fault) -> Answer
     ensures { result ≡ answer_of fault }
 {

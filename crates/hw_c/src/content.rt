@@ -1,11 +1,11 @@
-//! What a box holds, taken apart.
+//! The parts of a box: its pointer and its allocator.
 
 ghost use Rattle.std.specs.{Prelude.{◌≡◌}, Box.Ownership.{box_owns}};
 
 use std::alloc::Allocator;
 use std::marker::Model;
 
-/// The pointer and the allocator of a box, which own what the box owned.
+/// The pointer and the allocator of a box. They own what the box owned.
 pub(crate) struct Content<T, A: Allocator> {
     pub(crate) at: *mut T,
     pub(crate) alloc: A,
@@ -17,7 +17,7 @@ impl<T, A: Allocator> Model for Content<T, A> {
 }
 
 impl<T, A: Allocator> Content<T, A> {
-    /// The content of a box.
+    /// Takes a box apart.
     pub(crate) fn of(boxed: Box<T, A>) -> Content<T, A>
     where
         T: Drop,
@@ -27,7 +27,7 @@ impl<T, A: Allocator> Content<T, A> {
         Content { at, alloc }
     }
 
-    /// The box of a content.
+    /// Puts a box together again.
     pub(crate) fn boxed(self) -> Box<T, A>
         ensures { result.value ≡ self.value }
     {

@@ -11,7 +11,7 @@ use hw_core::Core;
 use hw_types::{Digest, Receipt};
 use std::alloc::Global;
 
-/// Delivers one of several vertices, whose name was worked out ahead.
+/// Delivers one of several vertices, with a name that was worked out ahead.
 fn deliver_named(
     alloc: Global,
     core: &mut Core,
@@ -28,13 +28,8 @@ fn deliver_named(
     }
 }
 
-/// Delivers one of several vertices, of whom none has a name that was worked out ahead.
-fn deliver_unnamed(
-    alloc: Global,
-    core: &mut Core,
-    bytes: &[u8],
-    sent: Sent,
-) -> Result<Receipt, Fault>
+/// Delivers one of several vertices, without a name that was worked out ahead.
+fn deliver_one(alloc: Global, core: &mut Core, bytes: &[u8], sent: Sent) -> Result<Receipt, Fault>
     ensures { IsDeliveryOf core.old bytes.now sent result core.new }
 {
     match bytes_of(bytes, sent) {
@@ -43,7 +38,7 @@ fn deliver_unnamed(
     }
 }
 
-/// Delivers vertices of which no name is worked out ahead.
+/// Delivers vertices whose names are not worked out ahead.
 fn deliver_others(
     alloc: Global,
     core: &mut Core,
@@ -55,12 +50,12 @@ fn deliver_others(
     ensures { AreDeliveries core.old bytes.now vertices.now delivered.new core.new }
 {
     'vertices: for k in 0..vertices.len() {
-        let outcome = deliver_unnamed(alloc, core, bytes, vertices[k]);
+        let outcome = deliver_one(alloc, core, bytes, vertices[k]);
         delivered[k] = delivered_of(outcome);
     }
 }
 
-/// Delivers as many vertices as names are worked out at once, or fewer, with the names of the units among them.
+/// Delivers at most `MOST` vertices. The names of the units among them are worked out first, all at once.
 fn deliver_few(
     alloc: Global,
     core: &mut Core,
@@ -85,7 +80,8 @@ fn deliver_few(
     }
 }
 
-/// Delivers the vertices in order, and tells what each was answered.
+/// Delivers the vertices in order, and writes the answer to each. `OutOfRange` where there are not as many places for
+/// answers as vertices.
 pub fn deliver_all(
     alloc: Global,
     core: &mut Core,

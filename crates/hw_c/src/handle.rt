@@ -1,8 +1,10 @@
-//! What a caller in another language holds: a place for a node.
+//! The handle that a caller in another language holds: a place for a node.
 
-ghost use Rattle.std.specs.Prelude.{◌≡◌, Some, None, Option, option_map};
+ghost use Rattle.std.specs.Prelude.{◌≡◌, Some, None, Option, IfErr, option_map};
+ghost use Rattle.hw_c.specs.declared.codes.Fault.TheVariants as faults;
 ghost use Rattle.hw_c.specs.Held.{Held, held_coded, held_owns, value_in, boxed_in};
 
+use crate::codes::Fault;
 use crate::content::Content;
 use hw_core::Core;
 use std::alloc::Global;
@@ -24,7 +26,7 @@ impl Model for Handle {
 }
 
 impl Handle {
-    /// A place with no node.
+    /// A place without a node.
     fn empty(alloc: Global) -> Handle
         ensures { result.held ≡ None }
     {
@@ -45,7 +47,7 @@ impl Handle {
         }
     }
 
-    /// The content of the place, where it has one.
+    /// The node of the place as its pointer and allocator, where there is one.
     fn content(self) -> Option<Content<Core, Global>>
         ensures { value_in result ≡ self.held }
     {
@@ -67,16 +69,29 @@ impl Handle {
         *self = Handle::full(Content::of(core));
     }
 
-    /// Takes the node out, where there is one.
-    pub(crate) fn take(&mut self, alloc: Global) -> Option<Box<Core>>
+    /// Takes the node out. Answers `Empty` where there is none.
+    pub(crate) fn take(&mut self, alloc: Global) -> Result<Box<Core>, Fault>
         ensures taken { boxed_in result ≡ self.old.held }
         ensures empty { self.new.held ≡ None }
+        ensures fault { IfErr result (λ fault. fault ≡ faults.Empty) }
     {
         let none = Handle::empty(alloc);
-        let content = replace(self, none).content()?;
-        Some(content.boxed())
+        match replace(self, none).content() {
+            Some(content) => Ok(content.boxed()),
+            None => Err(Fault::Empty),
+        }
+    }
+
+    /// Puts a node back after a call of it, and answers what that call answered.
+    pub(crate) fn fill_after<T>(&mut self, outcome: T, core: Box<Core>) -> T
+        requires { self.old.held ≡ None }
+        ensures filled { self.new.held ≡ Some core.value }
+        ensures outcome { result ≡ outcome }
+    {
+        self.fill(core);
+        outcome
     }
 }
 
-// The box behind it may go to another thread.
+// The box that it points to may go to another thread.
 unsafe impl Send for Handle {}

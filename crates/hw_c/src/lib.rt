@@ -1,32 +1,33 @@
-//! The core for C and Rust: what stands in `highway.h`.
+//! The core for C and Rust: the functions that `highway.h` declares.
 //!
-//! A caller owns a handle, one word that is null until `hw_core_new` fills it. A call takes the node out of its
-//! handle, works, and puts it back; so calls of one handle never overlap, and a handle that holds no node is answered
-//! with a status of its own. No memory of the library is handed out: bytes go into the caller's buffer as far as they
-//! fit, and the length that is told is that of all of them.
+//! A caller owns a handle: one word, which is null until `hw_core_new` fills it. A call takes the node out of its
+//! handle, works, and puts it back. So calls of one handle never overlap. A handle without a node gets a status of its
+//! own. The library hands out none of its memory: bytes go into the caller's buffer as far as they fit. The length in
+//! the answer counts all of them.
 //!
-//! Each contract names the outcome of the call, says what it is of the node, and what of it stands in the status and
-//! in the caller's structs.
+//! Each contract names the outcome of the call and relates it to the node. It then says what the status and the
+//! caller's structs hold of that outcome.
 #![tactic(auto)]
 
 ghost use Rattle.std.specs.Prelude.{◌≡◌, ℕ, List, Result, None};
-ghost use Rattle.hw_c.specs.declared.audits.AuditText.{AuditText};
+ghost use Rattle.hw_c.specs.declared.audits.Audited.{Audited};
 ghost use Rattle.hw_c.specs.declared.calls.Decided.{Decided};
 ghost use Rattle.hw_c.specs.declared.calls.Observed.{Observed};
 ghost use Rattle.hw_c.specs.declared.calls.Placed.{Placed};
 ghost use Rattle.hw_c.specs.declared.calls.Summary.{Summary};
 ghost use Rattle.hw_c.specs.declared.codes.Fault.{Fault};
 ghost use Rattle.hw_c.specs.declared.light.Judged.{Judged};
+ghost use Rattle.hw_c.specs.declared.put.WithBytes.{WithBytes};
 ghost use Rattle.hw_c.specs.declared.signed.Signed.{Signed};
-ghost use Rattle.hw_c.specs.declared.steps.Step.{Step};
-ghost use Rattle.hw_c.specs.Audits.{IsAudit, IsAuditPut};
-ghost use Rattle.hw_c.specs.Buffers.{IsWritten};
+ghost use Rattle.hw_c.specs.declared.steps.Planned.{Planned};
+ghost use Rattle.hw_c.specs.Audits.{IsAudit};
+ghost use Rattle.hw_c.specs.Buffers.{IsWritten, IsPutWithBytes};
 ghost use Rattle.hw_c.specs.Calls.{IsSigned, IsEntry, IsSummary, IsObserved, IsPlaced, IsDecided, IsUnmet, IsWithSignature};
 ghost use Rattle.hw_c.specs.Handles.{Begins, Ends, Delivers, Reads, ReadsBoth};
 ghost use Rattle.hw_c.specs.Light.{IsCertificate, IsCertifiedSigned, IsJudged};
 ghost use Rattle.hw_c.specs.Needed.{IsForNeed};
 ghost use Rattle.hw_c.specs.Settings.{IsConfig};
-ghost use Rattle.hw_c.specs.Steps.{IsStep, IsStepPut};
+ghost use Rattle.hw_c.specs.Steps.{IsStep};
 ghost use Rattle.hw_c.specs.Told.{status, behind, Puts, PutsWith};
 
 mod audits;
@@ -51,14 +52,14 @@ pub use codes::Answer;
 pub use handle::Handle;
 pub use light::Judged;
 pub use needs::Missing;
-use put::{put, put_bytes, put_bytes_with, put_done, put_with};
+use put::{put, put_both, put_bytes, put_bytes_with, put_done, put_with};
 pub use sent::{Delivered, Sent};
 pub use settings::Settings;
 pub use signed::{Signed, Signer};
 use std::alloc::Global;
 pub use steps::Planned;
 
-/// The bytes of the configuration with these fields.
+/// Spells the configuration with these fields as bytes.
 #[unsafe(no_mangle)]
 pub extern "C" fn hw_config(
     alloc: Global,
@@ -75,7 +76,7 @@ pub extern "C" fn hw_config(
     put_bytes_with(outcome, buf, len, answer)
 }
 
-/// Puts a node of the configuration that the bytes spell into an empty handle.
+/// Puts a new node into an empty handle. The bytes spell its configuration.
 #[unsafe(no_mangle)]
 pub extern "C" fn hw_core_new(
     alloc: Global,
@@ -85,20 +86,20 @@ pub extern "C" fn hw_core_new(
 ) -> u32
     ensures { (r : Result Unit Fault) × Begins core.old.held config.now r core.new.held × (result ≡ status r) × (answer.new ≡ behind r) }
 {
-    let outcome = held::begin(alloc, config, core);
+    let outcome = core.begin(alloc, config);
     put_done(outcome, answer)
 }
 
-/// Lets the node of a handle go, which is empty then.
+/// Frees the node of a handle. The handle is empty then.
 #[unsafe(no_mangle)]
 pub extern "C" fn hw_core_free(alloc: Global, core: &mut Handle) -> u32
     ensures { (r : Result Unit Fault) × Ends core.old.held r core.new.held × (result ≡ status r) }
 {
-    let outcome = held::end(alloc, core);
+    let outcome = core.end(alloc);
     put::said(outcome)
 }
 
-/// Who signed the vertex that the bytes spell, and what.
+/// Who signed the vertex that the bytes spell, and which units.
 #[unsafe(no_mangle)]
 pub extern "C" fn hw_signed(
     alloc: Global,
@@ -112,8 +113,8 @@ pub extern "C" fn hw_signed(
     put_with(outcome, signed, answer)
 }
 
-/// Delivers the vertices, which stand in the bytes, in order, each with the verdict on its signatures; and tells what
-/// each was answered. The two lists are equally long. The units among the vertices are hashed four side by side.
+/// Delivers the vertices in order, each with the verdict on its signatures, and writes the answer to each. The bytes
+/// hold all of the vertices. The two lists are equally long. The units among the vertices are hashed four side by side.
 #[unsafe(no_mangle)]
 pub extern "C" fn hw_deliver(
     alloc: Global,
@@ -124,7 +125,7 @@ pub extern "C" fn hw_deliver(
 ) -> u32
     ensures { (r : Result Unit Fault) × Delivers core.old.held bytes.now vertices.now delivered.old r delivered.new core.new.held × (result ≡ status r) }
 {
-    let outcome = held::deliver(alloc, core, bytes, vertices, delivered);
+    let outcome = core.deliver(alloc, bytes, vertices, delivered);
     put::said(outcome)
 }
 
@@ -139,16 +140,16 @@ pub extern "C" fn hw_journal(
 ) -> u32
     ensures { (r : Result (List ℕ) Fault) × Reads (λ c. IsEntry c place) core.old.held r core.new.held × IsWritten r buf.old buf.new len.old len.new × (result ≡ status r) }
 {
-    let outcome = held::read_entry(alloc, core, place);
+    let outcome = core.read_entry(alloc, place);
     put_bytes(outcome, buf, len)
 }
 
-/// How much the node has of what, the weight of its faulty validators, and its fork choice.
+/// The counts of the node, the weight of its faulty validators, and its fork choice.
 #[unsafe(no_mangle)]
 pub extern "C" fn hw_summary(alloc: Global, core: &mut Handle, summary: &mut Summary) -> u32
     ensures { (r : Result Summary Fault) × Reads IsSummary core.old.held r core.new.held × Puts r summary.old summary.new result }
 {
-    let outcome = held::read_summary(alloc, core);
+    let outcome = core.read_summary(alloc);
     put(outcome, summary)
 }
 
@@ -162,7 +163,7 @@ pub extern "C" fn hw_observation(
 ) -> u32
     ensures { (r : Result Observed Fault) × Reads (λ c. IsObserved c validator) core.old.held r core.new.held × Puts r observed.old observed.new result }
 {
-    let outcome = held::read_observed(alloc, core, validator);
+    let outcome = core.read_observed(alloc, validator);
     put(outcome, observed)
 }
 
@@ -176,7 +177,7 @@ pub extern "C" fn hw_place(
 ) -> u32
     ensures { (r : Result Placed Fault) × Reads (λ c. IsPlaced c digest.now) core.old.held r core.new.held × Puts r placed.old placed.new result }
 {
-    let outcome = held::read_placed(alloc, core, digest);
+    let outcome = core.read_placed(alloc, digest);
     put(outcome, placed)
 }
 
@@ -190,11 +191,11 @@ pub extern "C" fn hw_decision(
 ) -> u32
     ensures { (r : Result Decided Fault) × Reads (λ c. IsDecided c index) core.old.held r core.new.held × Puts r decided.old decided.new result }
 {
-    let outcome = held::read_decided(alloc, core, index);
+    let outcome = core.read_decided(alloc, index);
     put(outcome, decided)
 }
 
-/// The first needs that parked units miss, as many as fit.
+/// The first needs that parked units miss, as many as fit. The count says how many that are.
 #[unsafe(no_mangle)]
 pub extern "C" fn hw_unmet(
     alloc: Global,
@@ -205,7 +206,7 @@ pub extern "C" fn hw_unmet(
     ensures read { (r : Result ℕ Fault) × Reads (λ c. IsUnmet c list.old list.new) core.old.held r core.new.held × Puts r count.old count.new result }
     ensures empty { core.old.held ≡ None → list.new ≡ list.old }
 {
-    let outcome = held::read_unmet(alloc, core, list);
+    let outcome = core.read_unmet(alloc, list);
     put(outcome, count)
 }
 
@@ -221,7 +222,7 @@ pub extern "C" fn hw_for_need(
 ) -> u32
     ensures { (r : Result (List ℕ) Fault) × Reads (λ c. IsForNeed c missing.now place) core.old.held r core.new.held × IsWritten r buf.old buf.new len.old len.new × (result ≡ status r) }
 {
-    let outcome = held::read_for_need(alloc, core, missing, place);
+    let outcome = core.read_for_need(alloc, missing, place);
     put_bytes(outcome, buf, len)
 }
 
@@ -236,10 +237,10 @@ pub extern "C" fn hw_next_unit(
     planned: &mut Planned,
     buf: &mut [u8],
 ) -> u32
-    ensures { (r : Result Step Fault) × Reads (λ c. IsStep c me now value.now) core.old.held r core.new.held × IsStepPut r planned.old planned.new buf.old buf.new × (result ≡ status r) }
+    ensures { (r : Result (WithBytes Planned) Fault) × Reads (λ c. IsStep c me now value.now) core.old.held r core.new.held × IsPutWithBytes r planned.old planned.new buf.old buf.new × (result ≡ status r) }
 {
-    let outcome = held::read_next(alloc, core, me, now, value);
-    steps::put_step(outcome, planned, buf)
+    let outcome = core.read_next(alloc, me, now, value);
+    put_both(outcome, planned, buf)
 }
 
 /// The vertex of a unit with its creator's signature, as bytes.
@@ -258,7 +259,7 @@ pub extern "C" fn hw_with_signature(
     put_bytes_with(outcome, buf, len, answer)
 }
 
-/// What the journals of two nodes say of each other, and that as text. The handles are two.
+/// Audits the journals of two nodes against each other, and writes the result as text too. The two handles differ.
 #[unsafe(no_mangle)]
 pub extern "C" fn hw_audit(
     alloc: Global,
@@ -267,10 +268,10 @@ pub extern "C" fn hw_audit(
     audited: &mut Audited,
     buf: &mut [u8],
 ) -> u32
-    ensures { (r : Result AuditText Fault) × ReadsBoth IsAudit left.old.held right.old.held r left.new.held right.new.held × IsAuditPut r audited.old audited.new buf.old buf.new × (result ≡ status r) }
+    ensures { (r : Result (WithBytes Audited) Fault) × ReadsBoth IsAudit left.old.held right.old.held r left.new.held right.new.held × IsPutWithBytes r audited.old audited.new buf.old buf.new × (result ≡ status r) }
 {
-    let outcome = held::read_audit(alloc, left, right);
-    audits::put_audit(outcome, audited, buf)
+    let outcome = left.read_audit(alloc, right);
+    put_both(outcome, audited, buf)
 }
 
 /// The certificate of the decided block of that place, as bytes.
@@ -284,11 +285,11 @@ pub extern "C" fn hw_certificate(
 ) -> u32
     ensures { (r : Result (List ℕ) Fault) × Reads (λ c. IsCertificate c index) core.old.held r core.new.held × IsWritten r buf.old buf.new len.old len.new × (result ≡ status r) }
 {
-    let outcome = held::read_certificate(alloc, core, index);
+    let outcome = core.read_certificate(alloc, index);
     put_bytes(outcome, buf, len)
 }
 
-/// Who signed the vertex of that place in the certificate that the bytes spell, and what.
+/// Who signed the vertex of that place in the certificate that the bytes spell, and which units.
 #[unsafe(no_mangle)]
 pub extern "C" fn hw_certified(
     alloc: Global,
@@ -303,7 +304,7 @@ pub extern "C" fn hw_certified(
     put_with(outcome, signed, answer)
 }
 
-/// What the certificate that the bytes spell is answered, with these verdicts on its vertices' signatures.
+/// The answer to the certificate that the bytes spell, with these verdicts on the signatures of its vertices.
 #[unsafe(no_mangle)]
 pub extern "C" fn hw_check(
     alloc: Global,

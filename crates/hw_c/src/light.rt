@@ -1,4 +1,4 @@
-//! Certificates: made by a node, read, and checked.
+//! Certificates: a node makes them, and anyone reads and checks them.
 
 ghost use Rattle.std.specs.Prelude.{◌≡◌, IfOk};
 ghost use Rattle.hw_types.specs.Spelling.{ConfigFits};
@@ -15,22 +15,23 @@ use hw_light::{
 use hw_types::{Bytes, Digest};
 use std::alloc::Global;
 
-/// What a certificate with verdicts is answered, its block, and the instance that it is of.
+/// The answer to a certificate with verdicts, its block, and the instance of its configuration.
 #[repr(C)]
 #[derive(Clone, Copy)]
 pub struct Judged {
     pub kind: u32,
-    /// The status of what is refused, or of the limit that is broken.
+    /// The status of the refusal, or of the limit that the configuration breaks; else 0.
     pub status: u32,
-    /// The vertex that is refused, counted from 0.
+    /// The vertex that is refused, counted from 0; else 0.
     pub number: u32,
-    /// The weight of the faulty validators, where it exceeds the threshold.
+    /// The weight of the faulty validators where it exceeds the threshold; else 0.
     pub weight: u64,
     pub block: [u8; 32],
     pub instance: [u8; 32],
 }
 
-/// The certificate of the decided block of that place, as bytes.
+/// The certificate of the decided block of that place, as bytes. `OutOfRange` where fewer blocks are decided, `Nothing`
+/// where the block is not certain now, and `TooLong` where the vertices are too many.
 pub fn certificate(alloc: Global, core: &mut Core, index: u64) -> Result<Bytes, Fault>
     ensures made { IsCertificate core.old index result }
     ensures unchanged { core.new ≡ core.old }
@@ -45,7 +46,8 @@ pub fn certificate(alloc: Global, core: &mut Core, index: u64) -> Result<Bytes, 
     }
 }
 
-/// Who signed the vertex of that place in the certificate that the bytes spell, and what.
+/// Who signed the vertex of that place in the certificate that the bytes spell, and which units. `Nothing` where the
+/// certificate has fewer vertices.
 pub fn certified_signatures(alloc: Global, bytes: &[u8], place: usize) -> Result<Signed, Fault>
     ensures { IsCertifiedSigned bytes.now place result }
 {
@@ -89,7 +91,8 @@ fn judged_of(checked: &Checked, block: Digest, instance: Digest) -> Judged
     judged
 }
 
-/// What the certificate that the bytes spell is answered, with these verdicts on its vertices' signatures.
+/// The answer to the certificate that the bytes spell, with these verdicts on the signatures of its vertices.
+/// `OutOfRange` where there are not as many verdicts as vertices.
 pub fn judgement(alloc: Global, bytes: &[u8], verdicts: &[bool]) -> Result<Judged, Fault>
     ensures { IsJudged bytes.now verdicts.now result }
 {

@@ -1,4 +1,4 @@
-//! The names of units, worked out ahead of their deliveries.
+//! The names of units, worked out before they are delivered.
 
 ghost use Rattle.std.specs.Prelude.{◌≡◌, ◌+◌, ◌<◌, ◌≤◌, IsTrue, length, map};
 ghost use Rattle.hw_lanes.specs.Pieces.{IsWithin};
@@ -29,8 +29,8 @@ fn looks_like_unit(bytes: &[u8], sent: Sent) -> bool
         && bytes[start] == UNIT_KIND
 }
 
-/// Whether one of the vertices looks like a unit with a right verdict. No answer depends on it: where there is none, no
-/// name is worked out.
+/// Whether one of the vertices looks like a unit with a right verdict. Where none does, no name needs to be worked out.
+/// Answers of deliveries do not depend on it.
 pub fn has_units(bytes: &[u8], vertices: &[Sent]) -> bool {
     'vertices: for k in 0..vertices.len() {
         if looks_like_unit(bytes, vertices[k]) {
@@ -40,7 +40,8 @@ pub fn has_units(bytes: &[u8], vertices: &[Sent]) -> bool {
     false
 }
 
-/// The part of the bytes that spells the unit of the vertex, where it looks like one with a right verdict.
+/// The part of the bytes that spells the unit of the vertex. It is empty where the vertex does not look like a unit
+/// with a right verdict.
 fn unit_part(bytes: &[u8], sent: Sent) -> Part
     ensures part { result ≡ unit_part bytes.now sent }
     ensures within { IsWithin (length bytes.now) result }
@@ -55,7 +56,7 @@ fn unit_part(bytes: &[u8], sent: Sent) -> Part
     }
 }
 
-/// Writes the digest of the part that spells each vertex's unit.
+/// Writes, for each vertex, the digest of the part that spells its unit.
 pub fn work_out(bytes: &[u8], vertices: &[Sent], names: &mut [[u8; 32]])
     requires few { length vertices.now ≤ MOST }
     requires room { length names.old ≡ length vertices.now }

@@ -1,4 +1,4 @@
-//! What a node misses, and what it has for a peer that misses something.
+//! What a node's parked units miss, and what the node has for a peer that misses something.
 
 ghost use Rattle.std.specs.Prelude.{◌≡◌, ◌++◌, ◌≤◌, length, map, take, drop, IfOk, Option};
 ghost use Rattle.hw_types.specs.declared.unit.Need.{Need};
@@ -11,7 +11,7 @@ use hw_needs::vertices_of;
 use hw_types::{Bytes, Digest, Need, OutOfMemory};
 use std::alloc::Global;
 
-/// What a unit waits for.
+/// A need: what a parked unit waits for.
 #[repr(C)]
 #[derive(Clone, Copy)]
 pub struct Missing {
@@ -63,7 +63,7 @@ fn missing_list(alloc: Global, needs: &[Need]) -> Result<Vec<Missing>, OutOfMemo
     Ok(needs.iter().map(|need| missing_of(need)).collect(alloc)?)
 }
 
-/// The first needs that parked units miss, as many as fit.
+/// The first needs that parked units miss, as many as fit. Answers how many that are.
 pub fn unmet(alloc: Global, core: &Core, list: &mut [Missing]) -> Result<usize, Fault>
     ensures { IsUnmet core.now list.old list.new result }
 {
@@ -76,7 +76,8 @@ pub fn unmet(alloc: Global, core: &Core, list: &mut [Missing]) -> Result<usize, 
     Ok(count)
 }
 
-/// The vertex of that place among those that the node has for the need, as bytes.
+/// The vertex of that place among those that the node has for the need, as bytes. `Nothing` where it has fewer, and
+/// `OutOfRange` where the need's kind is none.
 pub fn for_need(alloc: Global, core: &Core, missing: &Missing, place: usize) -> Result<Bytes, Fault>
     ensures { IsForNeed core.now missing.now place result }
 {

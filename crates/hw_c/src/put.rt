@@ -1,13 +1,20 @@
-//! How an outcome goes to the caller.
+//! How the outcome of a call goes into the caller's structs and buffers.
 
 ghost use Rattle.std.specs.Prelude.{◌≡◌, length};
-ghost use Rattle.hw_c.specs.{Told.{status, behind, Puts, PutsWith, receipt_answer}, Buffers.{IsWritten, copied}};
+ghost use Rattle.hw_c.specs.{Told.{status, behind, Puts, PutsWith, receipt_answer}, Buffers.{IsWritten, IsPutWithBytes, copied}};
 
 use crate::codes::{Answer, Fault, OK, answer_of, blank, status_of};
 use hw_text::rule_number;
 use hw_types::{Bytes, Receipt};
 
-/// Puts the value, where there is one, and answers the status.
+/// A value for one of the caller's structs, and the bytes for the buffer beside it.
+#[derive(Drop)]
+pub struct WithBytes<T> {
+    pub value: T,
+    pub bytes: Bytes,
+}
+
+/// Puts the value, if the call succeeded, and answers the status.
 pub fn put<T: Copy>(outcome: Result<T, Fault>, out: &mut T) -> u32
     ensures { Puts outcome out.old out.new result }
 {
@@ -20,7 +27,7 @@ pub fn put<T: Copy>(outcome: Result<T, Fault>, out: &mut T) -> u32
     }
 }
 
-/// The same, and tells what stands behind the status.
+/// The same, and puts the details of the status.
 pub fn put_with<T: Copy>(outcome: Result<T, Fault>, out: &mut T, answer: &mut Answer) -> u32
     ensures { PutsWith outcome out.old out.new answer.new result }
 {
@@ -37,7 +44,7 @@ pub fn put_with<T: Copy>(outcome: Result<T, Fault>, out: &mut T, answer: &mut An
     }
 }
 
-/// The status of what is done, or isn't.
+/// The status of a call that gives no value.
 pub fn said(outcome: Result<(), Fault>) -> u32
     ensures { result ≡ status outcome }
 {
@@ -47,7 +54,7 @@ pub fn said(outcome: Result<(), Fault>) -> u32
     }
 }
 
-/// Tells what stands behind the status, and answers the status.
+/// Puts the details of the status, and answers the status.
 pub fn put_done(outcome: Result<(), Fault>, answer: &mut Answer) -> u32
     ensures status { result ≡ status outcome }
     ensures answer { answer.new ≡ behind outcome }
@@ -64,7 +71,7 @@ pub fn put_done(outcome: Result<(), Fault>, answer: &mut Answer) -> u32
     }
 }
 
-/// Tells what became of a vertex.
+/// Details of a delivery that succeeded: what became of the vertex.
 pub fn receipt_answer(receipt: Receipt) -> Answer
     ensures { result ≡ receipt_answer receipt }
 {
@@ -84,7 +91,7 @@ pub fn receipt_answer(receipt: Receipt) -> Answer
     answer
 }
 
-/// Copies as many bytes as fit, and says how many there are in all.
+/// Copies as many bytes as fit, and answers how many there are in all.
 pub fn copy_bytes(bytes: &[u8], buf: &mut [u8]) -> usize
     ensures count { result ≡ length bytes.now }
     ensures copied { buf.new ≡ copied bytes.now buf.old }
@@ -98,7 +105,7 @@ pub fn copy_bytes(bytes: &[u8], buf: &mut [u8]) -> usize
     bytes.len()
 }
 
-/// Puts bytes, where there are any, and answers the status.
+/// Puts bytes and their count, if the call succeeded, and answers the status.
 pub fn put_bytes(outcome: Result<Bytes, Fault>, buf: &mut [u8], len: &mut usize) -> u32
     ensures status { result ≡ status outcome }
     ensures written { IsWritten outcome buf.old buf.new len.old len.new }
@@ -112,7 +119,22 @@ pub fn put_bytes(outcome: Result<Bytes, Fault>, buf: &mut [u8], len: &mut usize)
     }
 }
 
-/// The same, and tells what stands behind the status.
+/// Puts a value and its bytes, if the call succeeded, and answers the status.
+pub fn put_both<T: Copy>(outcome: Result<WithBytes<T>, Fault>, out: &mut T, buf: &mut [u8]) -> u32
+    ensures status { result ≡ status outcome }
+    ensures put { IsPutWithBytes outcome out.old out.new buf.old buf.new }
+{
+    match outcome {
+        Ok(WithBytes { value, bytes }) => {
+            *out = value;
+            copy_bytes(bytes.as_slice(), buf);
+            OK
+        }
+        Err(fault) => status_of(fault),
+    }
+}
+
+/// The same as `put_bytes`, and puts the details of the status.
 pub fn put_bytes_with(
     outcome: Result<Bytes, Fault>,
     buf: &mut [u8],

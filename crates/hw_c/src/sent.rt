@@ -1,4 +1,4 @@
-//! A vertex among other bytes, and what its delivery was answered.
+//! A vertex among other bytes, and the answer to its delivery.
 
 ghost use Rattle.std.specs.Prelude.{◌≡◌, IfSome, IfNone};
 ghost use Rattle.hw_c.specs.Deliveries.{bytes_of, delivered_of, IsInRange, IsOutside};
@@ -7,7 +7,7 @@ use crate::codes::{Answer, Fault, OK, answer_of, status_of};
 use crate::put::receipt_answer;
 use hw_types::Receipt;
 
-/// Where a vertex stands in the bytes, and the verdict on its signatures: 0 no, 1 yes.
+/// Where a vertex is in the bytes, and the verdict on its signatures: 0 no, 1 yes.
 #[repr(C)]
 #[derive(Clone, Copy)]
 pub struct Sent {
@@ -16,7 +16,7 @@ pub struct Sent {
     pub verdict: u32,
 }
 
-/// What the delivery of a vertex was answered.
+/// The answer to the delivery of a vertex.
 #[repr(C)]
 #[derive(Clone, Copy)]
 pub struct Delivered {
@@ -24,7 +24,7 @@ pub struct Delivered {
     pub answer: Answer,
 }
 
-/// The bytes of the vertex; None where they are not all there, or its verdict is neither no nor yes.
+/// The bytes of the vertex. None where they are not all there, or its verdict is neither 0 nor 1.
 pub fn bytes_of<'a>(bytes: &'a [u8], sent: Sent) -> Option<&'a [u8]>
     ensures bytes { IfSome result (λ part. part.now ≡ bytes_of bytes.now sent) }
     ensures within { IfSome result (λ part. IsInRange bytes.now sent) }
@@ -38,7 +38,7 @@ pub fn bytes_of<'a>(bytes: &'a [u8], sent: Sent) -> Option<&'a [u8]>
     Some(&bytes[start..start + length])
 }
 
-/// What is told of a delivery.
+/// The answer to a delivery with this outcome.
 pub fn delivered_of(outcome: Result<Receipt, Fault>) -> Delivered
     ensures { result ≡ delivered_of outcome }
 {

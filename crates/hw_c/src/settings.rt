@@ -10,8 +10,8 @@ use hw_types::{
 };
 use std::alloc::Global;
 
-/// The fields of a configuration that are no list. Who leads is drawn by the key where `is_drawn` isn't 0, else told
-/// by a table; there is a last block, of the height `end`, where `has_end` isn't 0.
+/// The fields of a configuration that are no list. Where `is_drawn` isn't 0, the key draws the leaders; else a table
+/// names them. Where `has_end` isn't 0, there is a last block, of the height `end`.
 #[repr(C)]
 #[derive(Clone, Copy)]
 pub struct Settings {
@@ -73,7 +73,7 @@ fn config_with(
     })
 }
 
-/// The bytes of the configuration with these fields, which keeps all limits.
+/// Spells the configuration with these fields as bytes. It keeps all limits, or the first that it breaks is the fault.
 pub fn spelled(
     alloc: Global,
     settings: &Settings,

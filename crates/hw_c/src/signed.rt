@@ -1,4 +1,4 @@
-//! Who signed a vertex, and what: so a caller can judge the signatures before it delivers the vertex.
+//! Who signed a vertex, and which units. A caller checks these signatures before it delivers the vertex.
 
 ghost use Rattle.std.specs.Prelude.{◌≡◌, IfOk};
 ghost use Rattle.hw_types.specs.Spelling.{Fits, VertexFits};
@@ -27,15 +27,7 @@ pub struct Signed {
     pub second: Signer,
 }
 
-/// Who signed the vertex that the bytes spell, and what.
-pub fn signatures(alloc: Global, bytes: &[u8]) -> Result<Signed, Fault>
-    ensures { IsSigned bytes.now result }
-{
-    let vertex = decode_vertex(alloc, bytes)?;
-    Ok(signed_of(alloc, &vertex)?)
-}
-
-/// Who signed the vertex, and what.
+/// Who signed the vertex, and which units.
 pub fn signed_of(alloc: Global, vertex: &Vertex) -> Result<Signed, OutOfMemory>
     requires { VertexFits vertex.now }
     ensures { IfOk result (λ signed. signed ≡ signed_of vertex.now) }
@@ -100,4 +92,12 @@ fn no_signer() -> Signer
         unit: [0; 32],
         signature: [0; 32],
     }
+}
+
+/// Who signed the vertex that the bytes spell, and which units.
+pub fn signatures(alloc: Global, bytes: &[u8]) -> Result<Signed, Fault>
+    ensures { IsSigned bytes.now result }
+{
+    let vertex = decode_vertex(alloc, bytes)?;
+    Ok(signed_of(alloc, &vertex)?)
 }

@@ -2,10 +2,10 @@
 
 ghost use Rattle.std.specs.Prelude.{◌≡◌, ◌<◌, ◌≤◌, ◌^◌, ℕ, length, IfOk, OnOk, Option};
 ghost use Rattle.hw_types.specs.{Real.{setting_of, received_in}, Spelling.{Fits}, Step.{step}};
-ghost use Rattle.hw_c.specs.{Answers.{plan_number}, Calls.{IsWithSignature}, Steps.{IsStep, IsSpelledStep, IsStepPut}, Told.{status}};
+ghost use Rattle.hw_c.specs.{Answers.{plan_number}, Calls.{IsWithSignature}, Steps.{IsStep, IsSpelledStep}};
 
-use crate::codes::{Fault, OK, status_of};
-use crate::put::copy_bytes;
+use crate::codes::Fault;
+use crate::put::WithBytes;
 use hw_codec::{decode_unit, digest_of, encode_unit, encode_vertex, fits};
 use hw_core::Core;
 use hw_types::{
@@ -14,7 +14,7 @@ use hw_types::{
 use hw_validator::next_unit_of;
 use std::alloc::Global;
 
-/// What a planned unit is for, how many bytes it has without a signature, and what its creator signs.
+/// What a planned unit is for, its length in bytes without a signature, and the digest that its creator signs.
 #[repr(C)]
 #[derive(Clone, Copy)]
 pub struct Planned {
@@ -23,14 +23,8 @@ pub struct Planned {
     pub digest: [u8; 32],
 }
 
-/// A planned unit, and its bytes.
-#[derive(Drop)]
-pub struct Step {
-    pub planned: Planned,
-    pub bytes: Bytes,
-}
-
-/// The unit that the validator may make at this moment, where there is one.
+/// The unit that the validator may make at this moment, if any. For the prover: this is a function of its own, so that
+/// the lemma about the journal applies to its call alone.
 #[tactic(auto, using(crate::proofs::StepLaws::step_is))]
 fn planned_unit(
     alloc: Global,
@@ -57,7 +51,7 @@ fn plan_number(kind: PlanKind) -> u32
     }
 }
 
-fn spelled(alloc: Global, plan: &Plan) -> Result<Step, OutOfMemory>
+fn spelled(alloc: Global, plan: &Plan) -> Result<WithBytes<Planned>, OutOfMemory>
     requires { Fits plan.now.unit }
     ensures { IfOk result (IsSpelledStep plan.now) }
 {
@@ -69,11 +63,22 @@ fn spelled(alloc: Global, plan: &Plan) -> Result<Step, OutOfMemory>
         length: bytes.len() as u64,
         digest,
     };
-    Ok(Step { planned, bytes })
+    Ok(WithBytes {
+        value: planned,
+        bytes,
+    })
 }
 
-/// The unit that the validator may make at this moment, as bytes without a signature.
-pub fn next(alloc: Global, core: &Core, me: u32, now: u64, value: &[u8]) -> Result<Step, Fault>
+/// The unit that the validator may make at this moment, as bytes without a signature. `Nothing` where there is none,
+/// and `TooLong` where it is longer than the format allows. `OutOfRange` where there is no such validator, the moment
+/// is after the end of time, or the value is too long.
+pub fn next(
+    alloc: Global,
+    core: &Core,
+    me: u32,
+    now: u64,
+    value: &[u8],
+) -> Result<WithBytes<Planned>, Fault>
     ensures { IsStep core.now me now value.now result }
 {
     if me as usize >= core.state().config().weights.len() {
@@ -89,21 +94,6 @@ pub fn next(alloc: Global, core: &Core, me: u32, now: u64, value: &[u8]) -> Resu
         return Err(Fault::TooLong);
     }
     Ok(spelled(alloc, &plan)?)
-}
-
-/// Puts a step, where there is one, and answers the status.
-pub fn put_step(outcome: Result<Step, Fault>, planned: &mut Planned, buf: &mut [u8]) -> u32
-    ensures status { result ≡ status outcome }
-    ensures put { IsStepPut outcome planned.old planned.new buf.old buf.new }
-{
-    match outcome {
-        Ok(step) => {
-            *planned = step.planned;
-            copy_bytes(step.bytes.as_slice(), buf);
-            OK
-        }
-        Err(fault) => status_of(fault),
-    }
 }
 
 /// The vertex of a unit with its creator's signature, as bytes.

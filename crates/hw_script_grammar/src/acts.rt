@@ -1,4 +1,4 @@
-//! What a script does, step by step.
+//! The steps of a script.
 
 ghost use Rattle.std.specs.Prelude.{◌≡◌, ◌<◌, ◌++◌, ◌∷◌, [], Some, slice_get, length, OnOk, OnErr};
 ghost use Rattle.hw_script_grammar.specs.Fits.{ActFits};
@@ -8,24 +8,24 @@ use hw_types::{Bytes, Digest, OutOfMemory};
 use std::alloc::Global;
 use std::marker::Model;
 
-/// What a script does.
+/// One step of a script.
 #[derive(Drop)]
 pub enum Act {
-    /// A vertex is delivered.
+    /// Delivers a vertex to the node.
     Deliver(Named),
-    /// An endorsement by this validator is delivered, of the unit of this name and digest.
+    /// Delivers this validator's endorsement of the unit with this name and digest.
     Endorse(Bytes, Digest, u32),
-    /// The fork choice is shown.
+    /// Shows the fork choice.
     ShowFork,
-    /// What the node observes of each validator is shown.
+    /// Shows what the node observes of each validator.
     ShowPanorama,
-    /// The faulty validators are shown.
+    /// Shows the faulty validators.
     ShowFaulty,
-    /// The final blocks are shown.
+    /// Shows the final blocks.
     ShowFinal,
 }
 
-/// What is done, in order. Contracts see a list. Each vertex keeps the limits of its format, and has its unit's digest.
+/// The steps, in order. Contracts see a list. Each vertex keeps the limits of its format, and has its unit's digest.
 #[derive(Drop)]
 pub struct Acts {
     items: Vec<Act>,
@@ -43,7 +43,7 @@ impl Model for Acts {
 }
 
 impl Acts {
-    /// Nothing is done.
+    /// No steps.
     pub(crate) fn new(alloc: Global) -> Acts
         ensures { result ≡ [] }
     {
@@ -52,7 +52,7 @@ impl Acts {
         }
     }
 
-    /// Puts one more last. Where there is no memory, all stays as it was.
+    /// Adds one step at the end. After `OutOfMemory` the list is as it was.
     #[tactic(auto, using(crate::proofs::ActLaws::fit_more))]
     pub(crate) fn push(&mut self, act: Act) -> Result<(), OutOfMemory>
         requires { ActFits act }
@@ -63,7 +63,7 @@ impl Acts {
         Ok(())
     }
 
-    /// Puts all of these last.
+    /// Adds all of these at the end.
     #[tactic(auto, using(crate::proofs::ActLaws::fit_all))]
     pub(crate) fn append(&mut self, mut acts: Acts) -> Result<(), OutOfMemory>
         ensures { OnOk result (self.new ≡ self.old ++ acts) }
@@ -72,14 +72,14 @@ impl Acts {
         Ok(())
     }
 
-    /// How many there are.
+    /// How many steps there are.
     pub fn len(&self) -> usize
         ensures { result ≡ length self.now }
     {
         self.items.len()
     }
 
-    /// The one at this place.
+    /// The step at this place, counted from 0.
     #[tactic(auto, using(crate::proofs::ActLaws::fit_at))]
     pub fn get(&self, place: usize) -> &Act
         requires { place < length self.now }

@@ -1,4 +1,4 @@
-//! What one line defines or does.
+//! What one line adds to a script: a definition or steps.
 
 ghost use Rattle.std.specs.Prelude.{◌≡◌, None, IfOk, IfSome};
 ghost use Rattle.hw_types.specs.{Limits.{config_fault}, Real.{setting_of}, Spelling.{instance_of}};
@@ -19,7 +19,7 @@ use crate::words::Words;
 use hw_types::{Config, Digest, OutOfMemory};
 use std::alloc::Global;
 
-/// What a line begins with.
+/// The kinds of lines after the settings, by their first word.
 #[derive(Clone, Copy, Debug, PartialEq, Eq)]
 pub(crate) enum LineKind {
     Unit,
@@ -36,7 +36,7 @@ pub(crate) enum Adds {
     Steps(Acts),
 }
 
-/// What the words of a line add.
+/// What the words of a line add. `Grammar` where the line is outside the grammar.
 #[tactic(auto, unfolding(crate::specs::Acts::line_adds))]
 pub(crate) fn line_adds(
     alloc: Global,
@@ -57,7 +57,7 @@ pub(crate) fn line_adds(
     }
 }
 
-/// What a line begins with.
+/// The kind of a line by its first word.
 #[tactic(auto, unfolding(crate::specs::Acts::line_kind))]
 fn line_kind(word: &[u8]) -> Option<LineKind>
     ensures { result ≡ line_kind word.now }
@@ -77,7 +77,7 @@ fn line_kind(word: &[u8]) -> Option<LineKind>
     }
 }
 
-/// What a line of this kind adds.
+/// What a line of this kind adds, by its words after the first.
 #[tactic(auto, unfolding(crate::specs::Acts::adds_behind))]
 fn adds_behind(
     alloc: Global,
@@ -101,7 +101,7 @@ fn adds_behind(
     }
 }
 
-/// `NAME` and more.
+/// Reads `NAME` once or more.
 #[tactic(auto, using(crate::proofs::EachLaws::some_words, crate::proofs::EachLaws::no_words))]
 fn deliver_line(alloc: Global, names: &Names, words: &mut Words<'_>) -> Result<Acts, Fault>
     ensures { Gives (λ acts. acts) result (deliver_line names.now words.old) }
@@ -112,7 +112,7 @@ fn deliver_line(alloc: Global, names: &Names, words: &mut Words<'_>) -> Result<A
     each_delivery(alloc, names, words)
 }
 
-/// The deliveries of what the words name.
+/// The deliveries of the definitions that the words name.
 #[tactic(auto, using(crate::proofs::EachLaws::goes_on, crate::proofs::EachLaws::stops, crate::proofs::EachLaws::is_done, crate::proofs::EachLaws::begins))]
 fn each_delivery(alloc: Global, names: &Names, words: &mut Words<'_>) -> Result<Acts, Fault>
     ensures { Gives (λ acts. acts) result (each (delivery_of names.now) words.old) }
@@ -124,7 +124,7 @@ fn each_delivery(alloc: Global, names: &Names, words: &mut Words<'_>) -> Result<
     Ok(acts)
 }
 
-/// The delivery of what is defined under the name.
+/// The delivery of the definition under this name, where there is one.
 #[tactic(auto, unfolding(crate::specs::Acts::delivery_of))]
 fn delivery_of(names: &Names, word: &[u8]) -> Result<Act, Fault>
     ensures act { Gives (λ act. act) result (delivery_of names.now word.now) }
@@ -136,7 +136,7 @@ fn delivery_of(names: &Names, word: &[u8]) -> Result<Act, Fault>
     }
 }
 
-/// `NAME by V` and more.
+/// Reads `NAME by V`, with one or more validators `V`.
 #[tactic(auto, unfolding(crate::specs::Acts::endorse_line))]
 fn endorse_line(alloc: Global, names: &Names, words: &mut Words<'_>) -> Result<Acts, Fault>
     ensures { Gives (λ acts. acts) result (endorse_line names.now words.old) }
@@ -150,7 +150,7 @@ fn endorse_line(alloc: Global, names: &Names, words: &mut Words<'_>) -> Result<A
     Ok(endorsements_of(alloc, name, digest, validators.as_slice())?)
 }
 
-/// These validators endorse the unit of this name and digest.
+/// One step for each of these validators, which endorses the unit with this name and digest.
 #[tactic(auto, using(crate::proofs::ActLaws::one_endorsement))]
 fn endorsements_of(
     alloc: Global,
@@ -167,7 +167,7 @@ fn endorsements_of(
     Ok(acts)
 }
 
-/// One of the four words of what is shown.
+/// Reads one of the four words that name what a line shows.
 #[tactic(auto, unfolding(crate::specs::Acts::show_line))]
 fn show_line(alloc: Global, words: &mut Words<'_>) -> Result<Acts, Fault>
     ensures { Gives (λ acts. acts) result (show_line words.old) }
@@ -182,7 +182,7 @@ fn show_line(alloc: Global, words: &mut Words<'_>) -> Result<Acts, Fault>
     Ok(acts)
 }
 
-/// What the word shows.
+/// The step that the word names, where it is one of those.
 #[tactic(auto, unfolding(crate::specs::Acts::shown_by))]
 fn shown_by(word: &[u8]) -> Option<Act>
     ensures act { result ≡ shown_by word.now }

@@ -1,4 +1,4 @@
-//! The lines behind the settings.
+//! The lines after the settings.
 
 ghost use Rattle.std.specs.Prelude.{◌≡◌, None, IfOk};
 ghost use Rattle.hw_types.specs.{Limits.{config_fault}, Real.{setting_of}, Spelling.{instance_of}};
@@ -13,14 +13,14 @@ use hw_codec::instance_of;
 use hw_types::{Config, OutOfMemory};
 use std::alloc::Global;
 
-/// What the lines define and do so far.
+/// The definitions and steps of the lines that were read.
 #[derive(Drop)]
 pub(crate) struct Said {
     pub(crate) names: Names,
     pub(crate) acts: Acts,
 }
 
-/// Reads all lines behind the settings.
+/// Reads all lines after the settings. Answers the number of the first line that is outside the grammar, if any.
 #[tactic(auto, using(crate::proofs::BodyLaws::one_added, crate::proofs::BodyLaws::is_done))]
 pub(crate) fn read_body(
     alloc: Global,
@@ -43,7 +43,7 @@ pub(crate) fn read_body(
 }
 
 impl Said {
-    /// Nothing is defined or done.
+    /// No definitions and no steps.
     fn new(alloc: Global) -> Said
         ensures { result ≡ nothing_said }
     {

@@ -1,4 +1,4 @@
-//! What a unit says of each validator.
+//! The citations of a unit: what it observes of each validator.
 
 ghost use Rattle.std.specs.Prelude.{◌≡◌, map, length, slice_get, IfOk};
 ghost use Rattle.hw_script_grammar.specs.{Words.{next_each}, Units.{citation_of, citations, unit_number}, Answers.{Gives}};
@@ -10,15 +10,15 @@ use crate::words::Words;
 use hw_types::{Items, Obs, ObsList, OutOfMemory};
 use std::alloc::{AllocError, Global};
 
-/// What a unit says of a validator.
+/// What a unit observes of one validator.
 #[derive(Clone, Copy, Debug, PartialEq, Eq)]
 pub(crate) struct Citation {
     pub(crate) observation: Obs,
-    /// The number of the unit that it cites.
+    /// The sequence number of the cited unit, where there is one.
     pub(crate) seq: Option<u64>,
 }
 
-/// What a unit says of each of so many validators.
+/// Reads `cites` and one citation for each validator. `count` is the number of validators.
 #[tactic(auto, unfolding(crate::specs::Units::citations))]
 pub(crate) fn citations(
     alloc: Global,
@@ -33,7 +33,7 @@ pub(crate) fn citations(
     next_citations(alloc, names, count, words)
 }
 
-/// So many citations.
+/// Reads this many citations.
 #[tactic(auto, using(crate::proofs::NextLaws::goes_on, crate::proofs::NextLaws::lacks, crate::proofs::NextLaws::stops, crate::proofs::NextLaws::is_done, crate::proofs::NextLaws::begins))]
 fn next_citations(
     alloc: Global,
@@ -55,7 +55,7 @@ fn next_citations(
     Ok(list)
 }
 
-/// A dash, an exclamation mark, or the name of a unit.
+/// The citation that a word spells: a dash, an exclamation mark, or the name of a unit.
 #[tactic(auto, unfolding(crate::specs::Units::citation_of, crate::specs::Names::digest_as, crate::specs::Names::unit_as))]
 fn citation_of(names: &Names, word: &[u8]) -> Option<Citation>
     ensures { result ≡ citation_of names.now word.now }
@@ -75,7 +75,7 @@ fn citation_of(names: &Names, word: &[u8]) -> Option<Citation>
     })
 }
 
-/// No unit is cited.
+/// A citation without a unit.
 fn nothing_of(observation: Obs) -> Citation
     ensures { result ≡ record { observation = observation; seq = None } }
 {
@@ -99,7 +99,8 @@ fn observations(alloc: Global, citations: &[Citation]) -> Result<Vec<Obs>, Alloc
     citations.iter().map(|c| c.observation).collect(alloc)
 }
 
-/// The number that is given, or else the one behind the unit that its creator cites of its own.
+/// The sequence number of a unit: the given one, if any. Else the next one after the creator's own unit that it cites,
+/// or 0 where it cites none. None where there is no next number.
 #[tactic(auto, unfolding(crate::specs::Units::unit_number))]
 pub(crate) fn unit_number(given: Option<u64>, creator: u32, citations: &[Citation]) -> Option<u64>
     ensures { result ≡ unit_number given (slice_get citations.now creator) }

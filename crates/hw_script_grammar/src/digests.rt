@@ -11,7 +11,7 @@ use crate::words::Words;
 use hw_types::{Digest, DigestList, MAX_LIST, OutOfMemory};
 use std::alloc::Global;
 
-/// `endorsed NAME` and more, perhaps.
+/// Reads `endorsed` and one or more names, up to the end of the line. They may be left out.
 #[tactic(auto, unfolding(crate::specs::Units::unit_endorsed))]
 pub(crate) fn unit_endorsed(
     alloc: Global,
@@ -28,7 +28,7 @@ pub(crate) fn unit_endorsed(
     endorsed_names(alloc, names, words)
 }
 
-/// The digests of 1 to 256 names, in rising order.
+/// Reads 1 to 256 names, and answers their digests in rising order.
 #[tactic(auto, unfolding(crate::specs::Units::endorsed_names))]
 fn endorsed_names(alloc: Global, names: &Names, words: &mut Words<'_>) -> Result<DigestList, Fault>
     ensures list { Gives (λ list. list) result (endorsed_names names.now words.old) }
@@ -41,7 +41,7 @@ fn endorsed_names(alloc: Global, names: &Names, words: &mut Words<'_>) -> Result
     Ok(in_order(alloc, list.as_slice())?)
 }
 
-/// A word is the name of a unit, and means its digest.
+/// Each word is the name of a unit, and means the digest of this unit.
 #[derive(Clone, Copy)]
 struct DigestOf<'a> {
     names: &'a Names,
@@ -70,7 +70,7 @@ fn in_order(alloc: Global, digests: &[Digest]) -> Result<DigestList, OutOfMemory
     Ok(DigestList::from_vec(list))
 }
 
-/// Puts a digest before the first that isn't less.
+/// Inserts a digest before the first one that isn't less.
 #[tactic(auto, using(crate::proofs::OrderLaws::put_last, crate::proofs::OrderLaws::put_there))]
 fn put_digest(list: &mut Vec<Digest>, digest: Digest) -> Result<(), OutOfMemory>
     ensures order { OnOk result (list.new.items ≡ put_digest digest list.old.items) }

@@ -12,7 +12,7 @@ use crate::words::Words;
 use hw_types::{Evidence, Vertex, WireUnit};
 use std::alloc::Global;
 
-/// `NAME of NAME NAME`.
+/// Reads `NAME of NAME NAME`.
 #[tactic(auto, unfolding(crate::specs::Units::evidence_line))]
 pub(crate) fn evidence_line(
     alloc: Global,
@@ -37,7 +37,7 @@ pub(crate) fn evidence_line(
     })
 }
 
-/// The next word, which is the name of a unit.
+/// Reads the name of a unit, and answers this unit.
 #[tactic(auto, unfolding(crate::specs::Units::next_unit))]
 fn next_unit(names: &Names, words: &mut Words<'_>) -> Result<WireUnit, Fault>
     ensures unit { Gives (λ unit. (unit, words.new)) result (next_unit names.now words.old) }

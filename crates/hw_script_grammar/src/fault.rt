@@ -1,4 +1,4 @@
-//! Why a line, or a script, isn't read.
+//! Why a line, or a script, can't be read.
 
 ghost use Rattle.std.specs.Prelude.{◌≡◌};
 ghost use Rattle.hw_script_grammar.specs.Answers.{in_line};
@@ -7,12 +7,12 @@ ghost use Rattle.hw_script_grammar.specs.declared.fault.ScriptError.TheVariants 
 
 use hw_types::OutOfMemory;
 
-/// Why a line isn't read.
+/// Why a line can't be read.
 #[derive(Clone, Copy, Debug, PartialEq, Eq)]
 pub(crate) enum Fault {
     /// It is outside the grammar.
     Grammar,
-    /// There was no memory.
+    /// Reading it ran out of memory.
     OutOfMemory,
 }
 
@@ -24,13 +24,13 @@ impl From<OutOfMemory> for Fault {
     }
 }
 
-/// Why a script isn't read.
+/// Why a script can't be read.
 #[derive(Clone, Copy, Debug, PartialEq, Eq)]
 pub enum ScriptError {
-    /// The first line outside the grammar, counted from 1. Where a setting is missing and no line
-    /// stands behind the settings, it is the line behind the last one.
+    /// The number of the first line outside the grammar, counted from 1. Where a setting is missing and no line follows
+    /// the settings, it is the number of the last line plus one.
     Line(u64),
-    /// There was no memory.
+    /// Reading it ran out of memory.
     OutOfMemory,
 }
 
@@ -43,7 +43,7 @@ impl From<OutOfMemory> for ScriptError {
 }
 
 impl Fault {
-    /// The same of the script in whose line of this number it is.
+    /// The error of the script whose line of this number has the fault.
     pub(crate) fn in_line(self, number: u64) -> ScriptError
         ensures { result ≡ in_line number self }
     {

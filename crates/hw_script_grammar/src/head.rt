@@ -13,7 +13,7 @@ use crate::words::Words;
 use hw_types::{Config, IndexList, Leaders, USUAL_PARKED, USUAL_RECORDS, WeightList};
 use std::alloc::Global;
 
-/// What the settings lines have set so far.
+/// What the settings lines that were read have set.
 #[derive(Drop)]
 pub(crate) struct Settings {
     weights: Option<WeightList>,
@@ -26,14 +26,14 @@ pub(crate) struct Settings {
     end: Option<u64>,
 }
 
-/// The settings of a script, and the number of their last line, 0 where there is none.
+/// The settings of a script, and the number of their last line. The number is 0 where there are none.
 #[derive(Drop)]
 pub(crate) struct Head {
     settings: Settings,
     last: u64,
 }
 
-/// Reads the settings lines up to the first other one.
+/// Reads the settings lines, up to the first line that is none.
 #[tactic(auto, using(crate::proofs::HeadLaws::one_more, crate::proofs::HeadLaws::wrong_line, crate::proofs::HeadLaws::is_done))]
 pub(crate) fn read_head(alloc: Global, lines: &mut Lines<'_>) -> Result<Head, ScriptError>
     ensures head { Reads (λ head. (head, lines_in lines.new)) result (head_from no_head (lines_in lines.old)) }
@@ -51,7 +51,7 @@ pub(crate) fn read_head(alloc: Global, lines: &mut Lines<'_>) -> Result<Head, Sc
     Ok(Head { settings, last })
 }
 
-/// The configuration of the head, which keeps its limits, or the line that is wrong.
+/// The configuration that the head sets, or the number of the line that is wrong. The configuration keeps its limits.
 #[tactic(auto, unfolding(crate::specs::Settings::config_or_line))]
 pub(crate) fn config_or_line(head: Head, lines: &mut Lines<'_>) -> Result<Config, ScriptError>
     ensures config { Reads (λ config. config) result (config_or_line (lines.old.before + length lines.old.texts + 1) head (lines_in lines.old)) }
@@ -68,7 +68,7 @@ pub(crate) fn config_or_line(head: Head, lines: &mut Lines<'_>) -> Result<Config
     }
 }
 
-/// The number of the first line that isn't skipped, or of the line behind the last one.
+/// The number of the first line that isn't skipped. Where there is none, that of the last line plus one.
 fn first_number(lines: &mut Lines<'_>) -> u64
     ensures { result ≡ first_number (lines.old.before + length lines.old.texts + 1) (lines_in lines.old) }
 {
@@ -79,7 +79,7 @@ fn first_number(lines: &mut Lines<'_>) -> u64
 }
 
 impl Settings {
-    /// Nothing is set.
+    /// No setting is set.
     fn new() -> Settings
         ensures { result ≡ no_settings }
     {
@@ -104,7 +104,7 @@ impl Settings {
         self.set(setting)
     }
 
-    /// Sets what isn't set yet.
+    /// Sets one setting. `Grammar` where it is set already.
     #[tactic(auto, unfolding(crate::specs::Settings::with_setting))]
     fn set(&mut self, setting: Setting) -> Result<(), Fault>
         ensures { Gives (λ _. self.new) result (with_setting self.old setting) }
@@ -121,7 +121,7 @@ impl Settings {
         }
     }
 
-    /// The configuration, where all is set that has to be.
+    /// The configuration, where no required setting is missing.
     #[tactic(auto, unfolding(crate::specs::Settings::config_of))]
     fn config(self) -> Option<Config>
         ensures { result ≡ config_of self }
@@ -155,7 +155,7 @@ impl Settings {
     }
 }
 
-/// Puts a value where there is none.
+/// Puts a value into an empty place. `Grammar` where the place has a value already.
 fn put_once<T: Drop>(slot: &mut Option<T>, value: T) -> Result<(), Fault>
     ensures { Gives (λ _. slot.new) result (once slot.old value) }
 {

@@ -1,8 +1,8 @@
-//! What is proved of the grammar: the reader's steps give what it says.
+//! For the prover: the reader's steps give what the grammar says.
 
 ghost use Rattle.hw_script_grammar.specs.Laws.{ThatWritesIsRead, ThatWrongIsNamed, ThatOneIsWritten, ThatAllIsRead, ThatNumbersAreDecimal};
 
-/// The relations of the grammar and the reader's steps agree.
+/// The relations of the grammar agree with the reader's steps.
 pub fn writes_is_script_of()
     ensures read { ThatWritesIsRead }
     ensures wrong { ThatWrongIsNamed }
@@ -10,7 +10,7 @@ pub fn writes_is_script_of()
     ensures all { ThatAllIsRead }
 {}
 
-/// Numbers stand as their decimal texts.
+/// Numbers are written as their decimal texts.
 pub fn numbers_are_decimal()
     ensures { ThatNumbersAreDecimal }
 {}

@@ -1,9 +1,9 @@
 //! The grammar of scripts.
 //!
-//! A script is a text that sets a configuration, defines units and evidence by name, and says what is
-//! delivered and shown. Reading one gives the configuration, all that is defined, and what is done, step by
-//! step; or the number of the first line outside the grammar. `specs/Grammar.antt` says which text writes which
-//! script, and which line is the first that is wrong.
+//! A script is a text that sets a configuration, and defines units and evidence by name. It also says what is delivered
+//! and shown. Reading a script gives its configuration, its definitions, and its steps; or the number of the first line
+//! outside the grammar. `specs/Grammar.antt` defines which text writes which script, and which line is the first that
+//! is wrong.
 #![tactic(auto)]
 
 mod acts;

@@ -1,4 +1,4 @@
-//! The lines of a text, one after the other.
+//! The lines of a text, one after another.
 
 ghost use Rattle.std.specs.Prelude.{◌≡◌, ◌+◌, ◌∷◌, [], length, true, false, Some, MatchOption, IfNone};
 ghost use Rattle.hw_script_grammar.specs.{Texts.{texts_of}, Lines.{lines_in, is_skipped, begin_with_setting}, Wording.{is_setting}};
@@ -6,7 +6,7 @@ ghost use Rattle.hw_script_grammar.specs.{Texts.{texts_of}, Lines.{lines_in, is_
 use crate::words::{Words, cut};
 use std::marker::Model;
 
-/// The lines of a text that aren't read yet.
+/// The lines of a text that were not read yet.
 #[derive(Drop)]
 pub(crate) struct Lines<'a> {
     /// How many lines were read.
@@ -43,14 +43,14 @@ impl<'a> Lines<'a> {
         }
     }
 
-    /// The number of the line behind those that were read.
+    /// The number of the line after those that were read.
     pub(crate) fn next_number(&self) -> u64
         ensures { result ≡ self.now.before + 1 }
     {
         self.before + 1
     }
 
-    /// The text of the next line, if there is one.
+    /// Takes the next line, if there is one, and answers its text.
     #[tactic(auto, using(crate::proofs::Pieces::one_text), unfolding(crate::specs::Texts::texts_of))]
     fn text(&mut self) -> Option<&'a [u8]>
         ensures text { MatchOption result ((self.old.texts ≡ []) × (self.new ≡ self.old)) (λ text. (self.old.texts ≡ text.now ∷ self.new.texts) × (self.new.before ≡ self.old.before + 1)) }
@@ -68,7 +68,7 @@ impl<'a> Lines<'a> {
         Some(text)
     }
 
-    /// The next line that isn't skipped, if there is one.
+    /// Takes the next line that isn't skipped, if there is one.
     #[tactic(auto, using(crate::proofs::LineLaws::line_taken, crate::proofs::LineLaws::none_left))]
     pub(crate) fn next(&mut self) -> Option<Line<'a>>
         ensures line { MatchOption result (lines_in self.old ≡ []) (λ line. lines_in self.old ≡ line ∷ lines_in self.new) }
@@ -105,7 +105,7 @@ impl<'a> Lines<'a> {
     }
 }
 
-/// Whether the line is empty or begins with `#`.
+/// Whether the reader skips the line: it is empty or begins with `#`.
 fn is_skipped(text: &[u8]) -> bool
     ensures { result ≡ is_skipped text.now }
 {

@@ -1,4 +1,4 @@
-//! Lists of what words mean, to the end of a line.
+//! Lists of words up to the end of a line, and what they mean.
 
 ghost use Rattle.std.specs.Prelude.{◌^◌};
 ghost use Rattle.hw_text.specs.Numbers.{number_below};
@@ -10,22 +10,22 @@ use hw_text::number_up_to;
 use hw_types::{IndexList, Items, WeightList};
 use std::alloc::Global;
 
-/// What the words of a list mean.
+/// How the words of a list are read.
 pub(crate) trait Meaning {
     ghost use Rattle.std.specs.Prelude.{Option};
     ghost use Rattle.hw_script_grammar.specs.Words.{Word};
 
     type Item: Copy;
 
-    /// What one word means.
+    /// For the prover: what one word means.
     ghost of: { Self → Word → Option Self.Item };
 
-    /// What the word means.
+    /// What the word means. `Grammar` where it means nothing.
     fn read(&self, word: &[u8]) -> Result<Self::Item, Fault>
         ensures { Gives (λ item. item) result (of self.now word.now) };
 }
 
-/// What one or more words mean.
+/// Reads one or more words, up to the end of the line, and answers what they mean.
 #[tactic(auto, using(crate::proofs::EachLaws::some_words, crate::proofs::EachLaws::no_words))]
 pub(crate) fn one_or_more<M: Meaning>(
     alloc: Global,
@@ -40,7 +40,7 @@ pub(crate) fn one_or_more<M: Meaning>(
     each(alloc, meaning, words)
 }
 
-/// What each of the words means.
+/// Reads all remaining words, and answers what each one means.
 #[tactic(auto, using(crate::proofs::EachLaws::goes_on, crate::proofs::EachLaws::stops, crate::proofs::EachLaws::is_done, crate::proofs::EachLaws::begins))]
 fn each<M: Meaning>(
     alloc: Global,
@@ -56,21 +56,21 @@ fn each<M: Meaning>(
     Ok(list)
 }
 
-/// One or more numbers below 2^64.
+/// Reads one or more numbers below 2^64.
 pub(crate) fn weights(alloc: Global, words: &mut Words<'_>) -> Result<WeightList, Fault>
     ensures { Gives (λ list. list) result (one_or_more (number_below (2 ^ 64)) words.old) }
 {
     one_or_more(alloc, &Weight, words)
 }
 
-/// One or more numbers below 2^32.
+/// Reads one or more numbers below 2^32.
 pub(crate) fn counts(alloc: Global, words: &mut Words<'_>) -> Result<IndexList, Fault>
     ensures { Gives (λ list. list) result (one_or_more (number_below (2 ^ 32)) words.old) }
 {
     one_or_more(alloc, &Count, words)
 }
 
-/// A word means a number below 2^64.
+/// Each word means a number below 2^64.
 struct Weight;
 
 impl Meaning for Weight {
@@ -83,7 +83,7 @@ impl Meaning for Weight {
     }
 }
 
-/// A word means a number below 2^32.
+/// Each word means a number below 2^32.
 struct Count;
 
 impl Meaning for Count {

@@ -1,4 +1,4 @@
-//! What a name stands for.
+//! Definitions: vertices with names.
 
 ghost use Rattle.std.specs.{Prelude.{◌≡◌, IfOk, IfSome}, Option.{option_copied}};
 ghost use Rattle.hw_types.specs.Spelling.{Fits};
@@ -10,14 +10,14 @@ use hw_types::{Bytes, Digest, OutOfMemory, Signature, SignedUnit, Vertex, WireUn
 #[derive(Drop)]
 pub struct Named {
     pub name: Bytes,
-    /// It is signed with zeros.
+    /// Its signatures are zeros.
     pub vertex: Vertex,
-    /// The digest of a unit.
+    /// The digest of the unit; None for evidence.
     pub digest: Option<Digest>,
 }
 
 impl Named {
-    /// The same, once more.
+    /// A copy of this definition.
     pub fn copy(&self) -> Result<Named, OutOfMemory>
         ensures { IfOk result (λ named. named ≡ self.now) }
     {
@@ -30,7 +30,7 @@ impl Named {
         })
     }
 
-    /// Its unit, where it is one.
+    /// The unit that it defines, where it is one.
     pub(crate) fn unit(&self) -> Option<&WireUnit>
         ensures unit { option_copied result ≡ unit_in self.now.vertex }
         ensures fits { NamedFits self.now → IfSome result (λ unit. Fits unit.now) }
@@ -41,7 +41,7 @@ impl Named {
         }
     }
 
-    /// Whether it is this unit.
+    /// Whether it defines this unit.
     pub(crate) fn is_unit(&self, unit: &WireUnit) -> bool
         ensures { result ≡ is_unit unit.now (unit_in self.now.vertex) }
     {
@@ -52,7 +52,7 @@ impl Named {
     }
 }
 
-/// A unit that is signed with zeros.
+/// The unit with a signature of zeros.
 pub(crate) fn unsigned(unit: WireUnit) -> SignedUnit
     ensures { result ≡ unsigned unit }
 {

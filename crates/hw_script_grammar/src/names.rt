@@ -1,4 +1,4 @@
-//! All that is defined in a script, by name.
+//! All definitions of a script, by name.
 
 ghost use Rattle.std.specs.{Prelude.{◌≡◌, ◌++◌, ◌∷◌, [], IfOk, IfSome, OnOk}, Option.{option_copied}};
 ghost use Rattle.hw_types.specs.Spelling.{Fits, digest_of};
@@ -10,15 +10,16 @@ use std::alloc::Global;
 use std::collections::BTreeMap;
 use std::marker::Model;
 
-/// All that is defined so far, in order. Contracts see a list. Each vertex keeps the limits of its format.
+/// The definitions of the lines that were read, in order. Contracts see a list. Each vertex keeps the limits of its
+/// format.
 ///
-/// Look-ups go through maps in the order of their keys, so no choice of names makes them slow.
+/// Look-ups use ordered maps, so no choice of names makes them slow.
 #[derive(Drop)]
 pub struct Names {
     items: Vec<Named>,
-    /// The place of the first definition under each name.
+    /// The place in `items` of the first definition with each name.
     by_name: BTreeMap<Vec<u8>, usize>,
-    /// The place of the first unit of each digest.
+    /// The place in `items` of the first unit with each digest.
     by_digest: BTreeMap<Digest, usize>,
 }
 
@@ -34,7 +35,7 @@ impl Model for Names {
 }
 
 impl Names {
-    /// Nothing is defined.
+    /// No definitions.
     pub(crate) fn new(alloc: Global) -> Names
         ensures { result ≡ [] }
     {
@@ -45,7 +46,7 @@ impl Names {
         }
     }
 
-    /// The same with one more definition, which stands last.
+    /// The same, with one more definition at the end.
     pub(crate) fn with_definition(self, named: Named) -> Result<Names, OutOfMemory>
         requires { NamedFits named }
         ensures { IfOk result (λ names. names ≡ self ++ named ∷ []) }
@@ -66,7 +67,7 @@ impl Names {
         })
     }
 
-    /// What is defined under the name.
+    /// The first definition with this name, if there is one.
     pub(crate) fn get(&self, name: &[u8]) -> Option<&Named>
         ensures named { option_copied result ≡ named_as self.now name.now }
         ensures fits { IfSome result (λ named. NamedFits named.now) }
@@ -75,14 +76,14 @@ impl Names {
         Some(&self.items[*place])
     }
 
-    /// Whether something is defined under the name.
+    /// Whether there is a definition with this name.
     pub(crate) fn is_taken(&self, name: &[u8]) -> bool
         ensures { result ≡ is_taken self.now name.now }
     {
         self.by_name.contains_key(name)
     }
 
-    /// The unit that is defined under the name.
+    /// The unit with this name, if there is one.
     #[tactic(auto, unfolding(crate::specs::Names::unit_as))]
     pub(crate) fn unit(&self, name: &[u8]) -> Option<&WireUnit>
         ensures unit { option_copied result ≡ unit_as self.now name.now }
@@ -94,7 +95,7 @@ impl Names {
         }
     }
 
-    /// The digest of the unit that is defined under the name.
+    /// The digest of the unit with this name, if there is one.
     #[tactic(auto, unfolding(crate::specs::Names::digest_as))]
     pub(crate) fn digest(&self, name: &[u8]) -> Option<Digest>
         ensures { result ≡ digest_as self.now name.now }
@@ -105,7 +106,7 @@ impl Names {
         }
     }
 
-    /// The name under which the unit of this digest is defined, empty where there is none.
+    /// The name of the unit with this digest. It is empty where there is none.
     pub fn name_of(&self, digest: &Digest) -> &[u8]
         ensures { result.now ≡ name_of self.now digest.now }
     {
@@ -115,8 +116,8 @@ impl Names {
         }
     }
 
-    /// Whether this unit, which has this digest, is defined. The units are gone through only where one has
-    /// the digest, and so once at most where no two units share one.
+    /// Whether this unit, which has this digest, is defined. It goes through the units only where one of them has the
+    /// digest. So it goes through them at most once in a script where no two units share a digest.
     #[tactic(auto, unfolding(crate::specs::Names::has_unit))]
     pub(crate) fn has_unit(&self, unit: &WireUnit, digest: &Digest) -> bool
         requires { digest.now ≡ digest_of unit.now }
@@ -126,7 +127,7 @@ impl Names {
     }
 }
 
-/// Notes the place of a unit's digest, if it is that of a unit.
+/// Notes the place of a digest, where there is one.
 fn note_digest(
     places: &mut BTreeMap<Digest, usize>,
     digest: Option<Digest>,
@@ -140,7 +141,7 @@ fn note_digest(
     }
 }
 
-/// Notes the place of a key, unless it has one.
+/// Notes the place of a key, unless the key has one.
 fn note<K: Ord + Drop>(
     places: &mut BTreeMap<K, usize>,
     key: K,

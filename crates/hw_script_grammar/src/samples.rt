@@ -1,8 +1,8 @@
-//! Small scripts, read by the definitions.
+//! For the prover: small scripts, read by the definitions.
 
 ghost use Rattle.hw_script_grammar.specs.Samples.{ThatAScriptIsRead, ThatAScriptIsWritten, ThatALineIsNamed, ThatALineIsWrong, ThatALackIsNamed, ThatALimitIsNamed};
 
-/// What the definitions make of four small scripts.
+/// The definitions read four small scripts as expected.
 pub fn small_scripts_are_read()
     ensures script { ThatAScriptIsRead }
     ensures written { ThatAScriptIsWritten }

@@ -13,7 +13,7 @@ use crate::names::Names;
 use hw_types::Config;
 use std::alloc::Global;
 
-/// What a script says: its configuration, all that it defines, and what it does.
+/// A script: its configuration, its definitions, and its steps.
 #[derive(Drop)]
 pub struct Script {
     pub config: Config,
@@ -21,20 +21,20 @@ pub struct Script {
     pub acts: Acts,
 }
 
-/// Reads the script that the text writes, whose configuration then keeps its limits. `Line` names the first
-/// line outside the grammar.
+/// Reads the script that the text writes. Its configuration keeps its limits. `Line` has the number of the first line
+/// outside the grammar.
 #[tactic(auto, using(crate::proofs::ReadLaws::is_written, crate::proofs::ReadLaws::is_wrong))]
 pub fn read_script(alloc: Global, text: &[u8]) -> Result<Script, ScriptError>
     ensures script { IfOk result (Writes text.now) }
     ensures line { IfErr result (IsLine (IsFirstWrong text.now)) }
-    // The same by the reader's steps, which `writes_is_script_of` says are one with the grammar.
+    // For the prover: the same by the reader's steps. `writes_is_script_of` says that the grammar agrees with them.
     ensures steps { Reads (λ script. script) result (script_of text.now) }
     ensures lawful { IfOk result (λ script. config_fault script.config ≡ None) }
 {
     script_of(alloc, text)
 }
 
-/// The same, as it is read step by step.
+/// The same. For the prover: its contract speaks of the reader's steps in place of the grammar.
 #[tactic(auto, unfolding(crate::specs::Script::script_in))]
 fn script_of(alloc: Global, text: &[u8]) -> Result<Script, ScriptError>
     ensures steps { Reads (λ script. script) result (script_of text.now) }

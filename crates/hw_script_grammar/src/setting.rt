@@ -13,7 +13,7 @@ use crate::words::Words;
 use hw_types::{IndexList, WeightList};
 use std::alloc::Global;
 
-/// What a settings line may set.
+/// The kinds of settings lines.
 #[derive(Clone, Copy, Debug, PartialEq, Eq)]
 pub(crate) enum Kind {
     Weights,
@@ -26,7 +26,7 @@ pub(crate) enum Kind {
     End,
 }
 
-/// What a settings line sets.
+/// What one settings line sets.
 #[derive(Drop)]
 pub(crate) enum Setting {
     Weights(WeightList),
@@ -39,7 +39,7 @@ pub(crate) enum Setting {
     End(u64),
 }
 
-/// What the words of a settings line set.
+/// Reads the words of a settings line. `Grammar` where the line is outside the grammar.
 #[tactic(auto, unfolding(crate::specs::Settings::setting_of))]
 pub(crate) fn setting_of(alloc: Global, words: &mut Words<'_>) -> Result<Setting, Fault>
     ensures { Gives (λ setting. setting) result (setting_of words.old) }
@@ -51,7 +51,7 @@ pub(crate) fn setting_of(alloc: Global, words: &mut Words<'_>) -> Result<Setting
     }
 }
 
-/// What a word says that the line sets.
+/// The kind of a settings line by its first word.
 #[tactic(auto, unfolding(crate::specs::Settings::kind_of))]
 fn kind_of(word: &[u8]) -> Option<Kind>
     ensures { result ≡ kind_of word.now }
@@ -77,7 +77,7 @@ fn kind_of(word: &[u8]) -> Option<Kind>
     }
 }
 
-/// What a line of this kind sets.
+/// What a line of this kind sets, by its words after the first.
 #[tactic(auto, unfolding(crate::specs::Settings::setting_behind))]
 fn setting_behind(alloc: Global, kind: Kind, words: &mut Words<'_>) -> Result<Setting, Fault>
     ensures { Gives (λ setting. setting) result (setting_behind kind words.old) }
@@ -94,7 +94,7 @@ fn setting_behind(alloc: Global, kind: Kind, words: &mut Words<'_>) -> Result<Se
     }
 }
 
-/// The least and the greatest exponent.
+/// Reads the least and the greatest exponent, and no more.
 #[tactic(auto, unfolding(crate::specs::Settings::two_exponents))]
 fn two_exponents(words: &mut Words<'_>) -> Result<Setting, Fault>
     ensures { Gives (λ setting. setting) result (two_exponents words.old) }
@@ -104,7 +104,7 @@ fn two_exponents(words: &mut Words<'_>) -> Result<Setting, Fault>
     Ok(Setting::Exponents(least as u8, greatest))
 }
 
-/// One number and no more.
+/// Reads one number below 2^64, and no more.
 #[tactic(auto, unfolding(crate::specs::Settings::one_number))]
 fn one_number(words: &mut Words<'_>) -> Result<u64, Fault>
     ensures { Gives (λ n. n) result (one_number (2 ^ 64) words.old) }
@@ -114,7 +114,7 @@ fn one_number(words: &mut Words<'_>) -> Result<u64, Fault>
     Ok(number)
 }
 
-/// One number below 2^32 and no more.
+/// Reads one number below 2^32, and no more.
 #[tactic(auto, unfolding(crate::specs::Settings::one_number))]
 fn one_count(words: &mut Words<'_>) -> Result<u32, Fault>
     ensures { Gives (λ n. n) result (one_number (2 ^ 32) words.old) }
@@ -124,7 +124,7 @@ fn one_count(words: &mut Words<'_>) -> Result<u32, Fault>
     Ok(number as u32)
 }
 
-/// One number below 256 and no more.
+/// Reads one number below 256, and no more.
 #[tactic(auto, unfolding(crate::specs::Settings::one_number))]
 fn one_byte(words: &mut Words<'_>) -> Result<u8, Fault>
     ensures { Gives (λ n. n) result (one_number (2 ^ 8) words.old) }

@@ -15,18 +15,18 @@ use hw_codec::digest_of;
 use hw_types::{Bytes, Config, Digest, END_OF_TIME, OutOfMemory, Vertex, WireUnit};
 use std::alloc::Global;
 
-/// The numbers that a unit line gives.
+/// The numbers in a unit line.
 #[derive(Clone, Copy, Debug, PartialEq, Eq)]
 pub(crate) struct UnitNumbers {
     creator: u32,
     time: u64,
     exponent: u8,
-    /// Where the line doesn't give it, it follows from what the unit cites.
+    /// The sequence number. None where the line has none: it then follows from the citations.
     seq: Option<u64>,
 }
 
-/// `NAME by V at T exp E`, perhaps `seq N`, `cites C` for each validator, perhaps `block TEXT`, perhaps
-/// `endorsed NAME` and more.
+/// Reads the line of a unit, after its first word. Parts in brackets may be left out, and there is one citation `C` for
+/// each validator: `NAME by V at T exp E [seq N] cites C.. [block TEXT] [endorsed NAME..]`.
 #[tactic(auto, unfolding(crate::specs::Units::unit_line))]
 pub(crate) fn unit_line(
     alloc: Global,
@@ -45,7 +45,7 @@ pub(crate) fn unit_line(
     named_unit(alloc, names, name, unit)
 }
 
-/// A name that isn't taken.
+/// Reads a name that isn't taken.
 #[tactic(auto, unfolding(crate::specs::Units::new_name))]
 pub(crate) fn new_name(alloc: Global, names: &Names, words: &mut Words<'_>) -> Result<Bytes, Fault>
     ensures { Gives (λ name. (name, words.new)) result (new_name names.now words.old) }
@@ -57,14 +57,14 @@ pub(crate) fn new_name(alloc: Global, names: &Names, words: &mut Words<'_>) -> R
     Ok(bytes_of(alloc, word)?)
 }
 
-/// The bytes of the word.
+/// A copy of the word.
 pub(crate) fn bytes_of(alloc: Global, word: &[u8]) -> Result<Bytes, OutOfMemory>
     ensures { IfOk result (λ bytes. bytes ≡ word.now) }
 {
     Ok(Bytes::from_vec(Vec::from_slice(alloc, word)?))
 }
 
-/// The unit under its name, which no other name stands for.
+/// The definition of the unit with this name. `Grammar` where the unit has a name already.
 #[tactic(auto, unfolding(crate::specs::Units::named_unit))]
 fn named_unit(alloc: Global, names: &Names, name: Bytes, unit: WireUnit) -> Result<Named, Fault>
     requires { Fits unit }
@@ -82,7 +82,7 @@ fn named_unit(alloc: Global, names: &Names, name: Bytes, unit: WireUnit) -> Resu
     })
 }
 
-/// All that stands behind the name of a unit.
+/// Reads the words after the name of a unit.
 #[tactic(auto, using(hw_types::proofs::LimitLaws::within_limits), unfolding(crate::specs::Units::unit_behind))]
 fn unit_behind(
     alloc: Global,
@@ -116,7 +116,7 @@ fn unit_behind(
     })
 }
 
-/// `by V at T exp E`, perhaps `seq N`.
+/// Reads `by V at T exp E [seq N]`.
 #[tactic(auto, unfolding(crate::specs::Units::unit_numbers))]
 fn unit_numbers(words: &mut Words<'_>) -> Result<UnitNumbers, Fault>
     ensures numbers { Gives (λ numbers. (numbers, words.new)) result (unit_numbers words.old) }
@@ -134,7 +134,7 @@ fn unit_numbers(words: &mut Words<'_>) -> Result<UnitNumbers, Fault>
     })
 }
 
-/// `seq N`, perhaps.
+/// Reads `seq N`, which may be left out.
 #[tactic(auto, unfolding(crate::specs::Words::optional))]
 fn given_number(words: &mut Words<'_>) -> Result<Option<u64>, Fault>
     ensures { Gives (λ seq. (seq, words.new)) result (optional (codes "seq") (number (2 ^ 64)) words.old) }
@@ -145,7 +145,7 @@ fn given_number(words: &mut Words<'_>) -> Result<Option<u64>, Fault>
     Ok(Some(words.number(u64::MAX)?))
 }
 
-/// `block TEXT`, perhaps.
+/// Reads `block TEXT`, which may be left out.
 #[tactic(auto, unfolding(crate::specs::Words::optional))]
 fn unit_value(alloc: Global, words: &mut Words<'_>) -> Result<Option<Bytes>, Fault>
     ensures value { Gives (λ value. (value, words.new)) result (unit_value words.old) }
@@ -157,7 +157,7 @@ fn unit_value(alloc: Global, words: &mut Words<'_>) -> Result<Option<Bytes>, Fau
     Ok(Some(value_text(alloc, words)?))
 }
 
-/// A text that may be a value.
+/// Reads a word that may be a value.
 #[tactic(auto, using(crate::proofs::ValueLaws::value_is_short), unfolding(crate::specs::Units::value_text))]
 fn value_text(alloc: Global, words: &mut Words<'_>) -> Result<Bytes, Fault>
     ensures value { Gives (λ value. (value, words.new)) result (value_text words.old) }

@@ -39,8 +39,8 @@ pub(crate) fn is_setting_word(word: &[u8]) -> bool
     is_one_of(word, SETTING_WORDS)
 }
 
-/// Whether the word may be a name: a lower-case letter and up to 15 lower-case letters and digits, and
-/// no word of the language.
+/// Whether the word may be a name: a lower-case letter and up to 15 lower-case letters and digits, but no word of the
+/// language.
 #[tactic(auto, unfolding(crate::specs::Wording::is_name))]
 pub(crate) fn is_name(word: &[u8]) -> bool
     ensures { result ≡ is_name word.now }
@@ -53,14 +53,14 @@ pub(crate) fn is_name(word: &[u8]) -> bool
     }
 }
 
-/// Whether the word is one of the language.
+/// Whether the word is a word of the language.
 fn is_reserved(word: &[u8]) -> bool
     ensures { result ≡ is_reserved word.now }
 {
     is_setting_word(word) || is_line_word(word) || is_answer_word(word)
 }
 
-/// Whether the word stands in another line, or in what is printed.
+/// Whether the word is one of the other lines, or of what is printed.
 #[tactic(auto, unfolding(crate::specs::Wording::is_line_word))]
 fn is_line_word(word: &[u8]) -> bool
     ensures { result ≡ is_line_word word.now }
@@ -68,7 +68,7 @@ fn is_line_word(word: &[u8]) -> bool
     is_one_of(word, LINE_WORDS)
 }
 
-/// Whether the word stands in an answer.
+/// Whether the word is one of the further words of answers.
 #[tactic(auto, unfolding(crate::specs::Wording::is_answer_word))]
 fn is_answer_word(word: &[u8]) -> bool
     ensures { result ≡ is_answer_word word.now }
@@ -76,7 +76,7 @@ fn is_answer_word(word: &[u8]) -> bool
     is_one_of(word, ANSWER_WORDS)
 }
 
-/// Whether the word is one of these, which single spaces separate.
+/// Whether the word is one of these words, which single spaces separate.
 #[tactic(auto, unfolding(crate::specs::Wording::is_one_of))]
 fn is_one_of(word: &[u8], words: &[u8]) -> bool
     ensures { result ≡ is_one_of word.now (words_of words.now) }

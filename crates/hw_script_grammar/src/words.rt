@@ -1,4 +1,4 @@
-//! The words of a line, one after the other.
+//! The words of a line, one after another.
 
 ghost use Rattle.std.specs.Prelude.{◌≡◌, ◌+◌, ◌≤◌, ◌==◌, ◌∷◌, [], length, drop, Some, None, MatchOption, IfOk, if◌then◌else◌};
 ghost use Rattle.std.specs.List.{slice_split, position};
@@ -13,7 +13,7 @@ use crate::wording::{is_setting_word, is_word};
 use hw_text::number_up_to;
 use std::marker::Model;
 
-/// The words of a line that aren't read yet.
+/// The words of a line that were not read yet.
 #[derive(Drop)]
 pub(crate) struct Words<'a> {
     rest: Option<&'a [u8]>,
@@ -36,7 +36,7 @@ impl<'a> Words<'a> {
         Words { rest: Some(line) }
     }
 
-    /// The next word, if there is one.
+    /// Takes the next word, if there is one.
     pub(crate) fn next(&mut self) -> Option<&'a [u8]>
         ensures { MatchOption result ((self.old ≡ []) × (self.new ≡ [])) (λ word. self.old ≡ word.now ∷ self.new) }
     {
@@ -46,7 +46,7 @@ impl<'a> Words<'a> {
         Some(word)
     }
 
-    /// The next word.
+    /// Takes the next word. `Grammar` where there is none.
     pub(crate) fn word(&mut self) -> Result<&'a [u8], Fault>
         ensures { Gives (λ word. (word.now, self.new)) result (next_word self.old) }
     {
@@ -74,7 +74,7 @@ impl<'a> Words<'a> {
         }
     }
 
-    /// Takes this word, if it comes next, and says whether it did.
+    /// Takes this word if it comes next, and answers whether it did.
     pub(crate) fn skip(&mut self, word: &str) -> bool
         ensures told { result ≡ begins_with word.now self.old }
         ensures left { self.new ≡ (if begins_with word.now self.old then drop 1 self.old else self.old) }
@@ -90,7 +90,7 @@ impl<'a> Words<'a> {
         true
     }
 
-    /// Takes this word, which has to come next.
+    /// Takes this word. `Grammar` where another word or none comes next.
     #[tactic(auto, unfolding(crate::specs::Words::keyword))]
     pub(crate) fn keyword(&mut self, word: &str) -> Result<(), Fault>
         ensures { Gives (λ _. self.new) result (keyword word.now self.old) }
@@ -102,7 +102,7 @@ impl<'a> Words<'a> {
         }
     }
 
-    /// A number that is at most this.
+    /// Takes a number that is at most this. `Grammar` where the next word is none.
     #[tactic(auto, unfolding(crate::specs::Words::number))]
     pub(crate) fn number(&mut self, most: u64) -> Result<u64, Fault>
         ensures number { Gives (λ n. (n, self.new)) result (number (most + 1) self.old) }
@@ -115,7 +115,7 @@ impl<'a> Words<'a> {
         }
     }
 
-    /// A number that is at most this, behind this word.
+    /// Takes this word and a number that is at most this.
     #[tactic(auto, unfolding(crate::specs::Words::number_behind))]
     pub(crate) fn number_behind(&mut self, word: &str, most: u64) -> Result<u64, Fault>
         ensures number { Gives (λ n. (n, self.new)) result (number_behind word.now (most + 1) self.old) }
@@ -125,7 +125,7 @@ impl<'a> Words<'a> {
         self.number(most)
     }
 
-    /// Tests that there are no more words.
+    /// Checks that there are no more words. `Grammar` where there are.
     pub(crate) fn end(&self) -> Result<(), Fault>
         ensures { Gives (λ _. self.now) result (nothing_more self.now) }
     {
@@ -137,7 +137,7 @@ impl<'a> Words<'a> {
     }
 }
 
-/// The bytes before the first one like this, and those behind it if there is one.
+/// The bytes before the first one that equals `at`, and those after it, where there is one.
 #[tactic(auto, using(crate::proofs::Pieces::cut_nowhere, crate::proofs::Pieces::cut_there))]
 pub(crate) fn cut(bytes: &[u8], at: u8) -> (&[u8], Option<&[u8]>)
     ensures pieces { slice_split (λ c. c == at) bytes.now ≡ result.0.now ∷ pieces at (option_copied result.1) }
@@ -149,7 +149,7 @@ pub(crate) fn cut(bytes: &[u8], at: u8) -> (&[u8], Option<&[u8]>)
     }
 }
 
-/// The place of the first byte like this.
+/// The place of the first byte that equals `at`.
 fn first_like(bytes: &[u8], at: u8) -> Option<usize>
     ensures { result ≡ position (λ c. c == at) bytes.now }
 {

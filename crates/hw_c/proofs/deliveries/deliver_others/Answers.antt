@@ -6,6 +6,6 @@ pub vertices-preserved : goal.vertices-preserved
 vertices-preserved c =
     let before = c.vertices.invariant in (
       length-set c.vertices.delivered _ _ ∙ before.0,
-      one_more c.args.core.now c.args.bytes.now c.args.vertices.now c.vertices.delivered c.vertices.k _ c.delivered_of.result c.deliver_unnamed-outcome.result
-          c.vertices.core c.deliver_unnamed-outcome.new.core (omega arith) before.0 before.1 c.deliver_unnamed-outcome.ensures c.delivered_of.ensures,
+      one_more c.args.core.now c.args.bytes.now c.args.vertices.now c.vertices.delivered c.vertices.k _ c.delivered_of.result c.deliver_one-outcome.result
+          c.vertices.core c.deliver_one-outcome.new.core (omega arith) before.0 before.1 c.deliver_one-outcome.ensures c.delivered_of.ensures,
     )
