@@ -1,8 +1,11 @@
-use Rattle.std.proofs.Common.{Ok, Err, sym, ap, subst}
+use Rattle.std.proofs.Common.{List, Ok, Err, sym, ap, subst}
+use Rattle.hw_types.specs.declared.unit.Need.{Need}
 use Rattle.hw_types.specs.declared.answers.Frame.{Frame}
 use Rattle.hw_link.specs.declared.end.SessionEnd.TheVariants as end
+use Rattle.hw_link.specs.Frames.{sent_bytes}
+use Rattle.hw_link.specs.Sent.{Sends}
 use Rattle.hw_session.specs.Node.{NodeState}
-use Rattle.hw_session.specs.Serving.{serve_frame}
+use Rattle.hw_session.specs.Serving.{answer_to_want, serve_frame}
 use Rattle.hw_session.specs.Handling.{Reacts}
 use Rattle.hw_session.specs.Standing.{standing}
 use Rattle.hw_session.proofs.NextLaws.{first_reacts, later_reacts, hello_refused, missing_passed, have_reacts, want_reacts, done_reacts}
@@ -41,7 +44,7 @@ returns-in-Have-clause-reacts g c =
     let old = g.D.Door.sessions c.args.door.now in
     let At : Frame → Type 0 = λ x. Reacts {T = Unit {0}} f.tells (standing n held) x (serve_frame n c.args.place x) (standing n held) old (g.D.Door.sessions c.answer_have.new.door) c.answer_have.result in
     later_reacts n c.args.place c.args.frame f.tells held held old (g.D.Door.sessions c.answer_have.new.door) c.answer_have.result n c.if-place-eq0.false
-    (subst At (sym c.in-Have.is) (have_reacts n c.args.place f.tells held _ c.in-Have.from old (g.D.Door.sessions c.answer_have.new.door) c.answer_have.result (ap (λ (k : NodeState). k.core) c.self.view_is) c.answer_have.ensures.sent))
+    (subst At (sym c.in-Have.is) (have_reacts n c.args.place f.tells held c.self.inside.core c.in-Have.from old (g.D.Door.sessions c.answer_have.new.door) c.answer_have.result (ap (λ (k : NodeState). k.core) c.self.view_is) c.answer_have.ensures.sent))
 
 pub returns-in-Want-clause-reacts : goal.returns-in-Want-clause-reacts
 returns-in-Want-clause-reacts g c =
@@ -51,7 +54,8 @@ returns-in-Want-clause-reacts g c =
     let old = g.D.Door.sessions c.args.door.now in
     let At : Frame → Type 0 = λ x. Reacts {T = Unit {0}} f.tells (standing n held) x (serve_frame n c.args.place x) (standing n held) old (g.D.Door.sessions c.answer_want.new.door) c.answer_want.result in
     later_reacts n c.args.place c.args.frame f.tells held held old (g.D.Door.sessions c.answer_want.new.door) c.answer_want.result n c.if-place-eq0.false
-    (subst At (sym c.in-Want.is) (want_reacts n c.args.place f.tells held _ _ old (g.D.Door.sessions c.answer_want.new.door) c.answer_want.result (ap (λ (k : NodeState). k.core) c.self.view_is) c.answer_want.ensures.sent))
+    (subst At (sym c.in-Want.is) (want_reacts n c.args.place f.tells held c.self.inside.core c.in-Want.needs old (g.D.Door.sessions c.answer_want.new.door) c.answer_want.result (ap (λ (k : NodeState). k.core) c.self.view_is)
+    (subst (λ (needs : List Need). Sends {T = Unit {0}} (sent_bytes (answer_to_want c.self.inside.core needs)) old (g.D.Door.sessions c.answer_want.new.door) c.answer_want.result) c.as_slice.ensures c.answer_want.ensures.sent)))
 
 pub returns-in-Missing-clause-reacts : goal.returns-in-Missing-clause-reacts
 returns-in-Missing-clause-reacts g c =
