@@ -74,7 +74,7 @@ IsOfNode cause.OutOfMemory = ⊥
 IsOfNode c = Unit {0}
 
 -- The answer is that of the definitions, and the node is what it leaves. Where the append failed, the vertex is in the
--- journal alone. So it may be out of memory.
+-- journal alone. So it may be where memory ran out.
 abbrev pub Accepts : NodeState → Vertex → NodeState → Result Receipt AcceptFault → Type 0
 Accepts n v m (Ok r) = (given_to n v ≡ Ok r) × (m ≡ taken_by n v (Ok r))
 Accepts n v m (Err (fault.Refused c)) = IsOfNode c × (given_to n v ≡ Err c) × (m ≡ taken_by n v (Err c))
@@ -129,7 +129,7 @@ WritesReceipt n (receipt.Admitted k) e old new result = Appended old new n.log e
 WritesReceipt n (receipt.Parked k) e old new result = Appended old new n.log e.bytes result
 WritesReceipt n (receipt.Dropped rule) e old new result = Appended old new n.log e.bytes result
 
--- a refused vertex is counted and a clash is kept, unless it runs out of memory
+-- a refused vertex is counted and a clash is kept, unless memory runs out
 abbrev pub Counts : NodeState → Vertex → Cause → NodeState → Result Receipt AcceptFault → Type 0
 Counts n v (cause.Clash d) m result = ((result ≡ Err fault.OutOfMemory) × (m ≡ n)) ⊎ ((result ≡ Err (fault.Refused (cause.Clash d))) × (m ≡ refused_by n v (cause.Clash d)))
 Counts n v cause.OutOfMemory m result = (result ≡ Err fault.OutOfMemory) × (m ≡ n)

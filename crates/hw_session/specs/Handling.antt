@@ -54,7 +54,7 @@ pub record WasCut (tells : Bool) (before : Standing) (f : Frame) (r : Reaction N
   pub logs : LogsAllBut before.node before.node vertex after.node tells before.held after.held
   pub told : new ≡ old
 
--- It did what the reaction says, and sent all of the answer. Or a fault of the link or out of memory cut that short.
+-- It did what the reaction says, and sent all of the answer. Or a fault of the link cut that short, or memory ran out.
 abbrev pub Reacts : {T : Type 0} → Bool → Standing → Frame → Reaction NodeState → Standing → Option (List Session) → Option (List Session) → Result T SessionEnd → Type 0
 Reacts tells before f r after old new (Ok x) = (r.end ≡ None) × Took tells before r (sent_bytes r.says) false after old new
 Reacts tells before f r after old new (Err end.LinkFault) = (part : List ℕ) × IsPrefixOf part (sent_bytes r.says) × Took tells before r part true after old new
@@ -75,7 +75,7 @@ Answers r old new (Err e) = (r.end ≡ Some e) × (new ≡ after_part [] (sent_b
 
 -- ---- what it did alike, whether it serves or drives
 
--- the peer is of another instance, or it ran out of memory before it knew
+-- the peer is of another instance, or memory ran out
 abbrev pub IsOfOther : NodeState → Digest → SessionEnd → Type 0
 IsOfOther n peers end.WrongInstance = digest_eq peers (instance_of n.core.config) ≡ false
 IsOfOther n peers end.OutOfMemory = Unit {0}

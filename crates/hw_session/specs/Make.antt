@@ -71,8 +71,8 @@ abbrev pub IsNothing : NodeState → Option Plan → Type 0
 IsNothing n planned = (planned ≡ None) ⊎ ((p : Plan) × (planned ≡ Some p) × IsNamesake n p)
 
 -- The unit of the plan is made and goes last in journal and log. Nothing is made where there is nothing to make. Where
--- the journal is full, that is counted. Where the append fails, the unit is in the journal alone. So it may be out of
--- memory.
+-- the journal is full, that is counted. Where the append fails, the unit is in the journal alone. So it may be where
+-- memory ran out.
 abbrev pub Makes : NodeState → Option Plan → NodeState → Result (Option Plan) MakeFault → Type 0
 Makes n planned m (Ok (Some p)) = IsToMake n planned p × (m ≡ with_entry n (own_vertex n p))
 Makes n planned m (Ok None) = IsNothing n planned × (m ≡ n)
