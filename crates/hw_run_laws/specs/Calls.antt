@@ -46,7 +46,8 @@ use Rattle.hw_run_laws.specs.Taken.{taken_served, taken_driven}
 
 -- ---- calls
 
--- No vertex that the node takes where it serves a peer that sends these bytes, and that it accepts in its turn, brings a new unit by the validator.
+-- The node serves a peer that sends these bytes. No vertex that it takes, and that it accepts in its turn, brings a new
+-- unit by the validator.
 abbrev pub IsFairServed : ℕ → NodeState → List ℕ → Type 0
 IsFairServed me n read = AreFair (setting_of n.core.config) me (logged_of n) (arrivals n (taken_served n read))
 
@@ -62,12 +63,13 @@ IsFairMet me side n read = AreFair (setting_of n.core.config) me (logged_of n) (
 abbrev pub IsFairVertex : ℕ → NodeState → Vertex → Type 0
 IsFairVertex me n v = AreFair (setting_of n.core.config) me (logged_of n) (arrivals n (v ∷ []))
 
--- a standing whose door tells this
+-- a node with its files, whose door reports this
 abbrev pub at_door : Standing → DoorSeen → Talker
 at_door a door = record { node = a.node; files = a.held; door = door }
 
--- What a node does over files that tell what they hold, however it ends: the validator's `make`, an `accept` of a fair vertex, a session that
--- it serves or drives with a fair peer, or a meeting with one, which it hosts or dials.
+-- What a node does over files that report what they hold, however it ends. It is the validator's `make`, an `accept` of
+-- a fair vertex, or a session that it serves or drives with a fair peer. Or it is a meeting with one, which it hosts or
+-- dials.
 pub data Attempt (me : ℕ) (a b : Standing) : Type 0 where
   makes : (now : ℕ) (value : List ℕ) (result : Result (Option Plan) MakeFault) → Makes a.node (planned_by a.node me now value) b.node result → WritesOwn a.node (planned_by a.node me now value) b.node a.held b.held result → Attempt me a b
   accepts : (v : Vertex) (result : Result Receipt AcceptFault) → Accepts a.node v b.node result → WritesAccepted a.node v b.node a.held b.held result → IsFairVertex me a.node v → Attempt me a b
@@ -75,7 +77,7 @@ pub data Attempt (me : ℕ) (a b : Standing) : Type 0 where
   drives : (mark now : PeerMark) (read written : List ℕ) (ends_old ends_new : ℕ) (e : SessionEnd) → Drives true (driver_standing a.node mark a.held) read written (driver_standing b.node now b.held) ends_old ends_new e → IsFairDriven me a.node mark read → Attempt me a b
   meets : (side : Side) (address : Option (List ℕ)) (from to : DoorSeen) (e : MeetEnd) → (does : NodeMeets side address true (at_door a from) (at_door b to) e) → IsFairMet me side a.node does.meets.read → Attempt me a b
 
--- no append failed in a `make`, and there was memory
+-- no append failed in a `make`, and it wasn't out of memory
 abbrev pub IsMade : Result (Option Plan) MakeFault → Type 0
 IsMade (Err fault.AppendFault) = ⊥
 IsMade (Err fault.OutOfMemory) = ⊥
@@ -89,23 +91,24 @@ IsWhole (serves read written ends_old ends_new e does fair) = IsLogged e
 IsWhole (drives mark now read written ends_old ends_new e does fair) = IsLogged e
 IsWhole (meets side address from to e does fair) = IsMetLogged e
 
--- The node is given up and started again, with its configuration and keys: from its log, or from what that is mended to.
+-- The node is given up and started again, with its configuration and keys: from its log, or from what that is mended
+-- to.
 pub record StartsAgain (a b : Standing) : Type 0 where
   pub bytes : List ℕ
   pub from : (a.held a.node.log ≡ Some bytes) ⊎ ((mended : Rewritten) × (mended_of (bytes_of (a.held a.node.log)) ≡ Ok mended) × (bytes ≡ mended.bytes))
   pub there : b.held b.node.log ≡ Some bytes
   pub on : GoesOn a.node.core.config a.node.keys b.node.log bytes b.node
 
--- One call behind which there is a node.
+-- One call after which there is a node.
 pub data Call (me : ℕ) (a b : Standing) : Type 0 where
-  -- no append failed, there was memory, and the node goes on
+  -- no append failed, it wasn't out of memory, and the node goes on
   goes_on : (attempt : Attempt me a b) → IsWhole attempt → Call me a b
   -- the node stops, and starts again
   starts : StartsAgain a b → Call me a b
   -- however it ended, the node is given up, and starts again
   gives_up : (c : Standing) → Attempt me a c → IsSound c.node → StartsAgain c b → Call me a b
 
--- one call after the other, from the one standing through the others
+-- one call after the other, from the first node with its files through the others
 abbrev pub AreCalls : ℕ → Standing → List Standing → Type 0
 AreCalls me a [] = Unit {0}
 AreCalls me a (b ∷ more) = Call me a b × IsSound b.node × AreCalls me b more
@@ -117,12 +120,12 @@ pub record IsReady (me : ℕ) (a : Standing) : Type 0 where
   pub line : OneLine (setting_of a.node.core.config) a.node.core.journal me
   pub log : HasLog a.node (a.held a.node.log)
 
--- A node that begins so stands so after each call and each start,
+-- A node that begins so is so after each call and each start,
 abbrev pub CallsKeepOneLine : Type 0
 CallsKeepOneLine = (me : ℕ) (a : Standing) (more : List Standing) → me < length a.node.core.config.weights → IsSound a.node → IsReady me a → AreCalls me a more
     → (b : Standing) → Among b more → IsReady me b
 
--- and where it is given up its own units are on one line too, though the last of them may stand in its journal alone.
+-- and where it is given up its own units are on one line too. The last of them may be in its journal alone.
 abbrev pub AttemptsKeepOneLine : Type 0
 AttemptsKeepOneLine = (me : ℕ) (a b : Standing) → me < length a.node.core.config.weights → IsSound a.node → IsReady me a → Attempt me a b
     → OneLine (setting_of b.node.core.config) b.node.core.journal me
@@ -146,11 +149,11 @@ abbrev pub AttemptsSayNoNew : Type 0
 AttemptsSayNoNew = (me : ℕ) (a b : Standing) → me < length a.node.core.config.weights → IsSound a.node → IsReady me a → (attempt : Attempt me a b)
     → (v : Vertex) → IsSaid attempt v → (x : SignedUnit) → Among x (signed_in v) → x.unit.creator ≡ me → CouldGoOut a.node x.unit
 
--- the vertex stood in the node's log at one of these, or could go out of it there
+-- the vertex was in the node's log at one of these, or could go out of it there
 abbrev pub WentOut : List Standing → Vertex → Type 0
 WentOut all v = (b : Standing) × Among b all × MayGoOut (logged_of b.node) v
 
--- No two different units by it of one number ever stood in its log or went out, inside evidence or not.
+-- No two different units by it of one number were ever in its log or went out, inside evidence or not.
 abbrev pub CallsKeepApart : Type 0
 CallsKeepApart = (me : ℕ) (a : Standing) (more : List Standing) → me < length a.node.core.config.weights → IsSound a.node → IsReady me a → AreCalls me a more
     → (v w : Vertex) → WentOut (a ∷ more) v → WentOut (a ∷ more) w
@@ -164,6 +167,7 @@ pub record MendsTo (n : NodeState) (file : Option (List ℕ)) : Type 0 where
   pub is : mended_of (bytes_of file) ≡ Ok mended
   pub log : HasLog n (Some mended.bytes)
 
--- A log that was cut in the entry behind it, mended, is the node's log, or where all of that entry stands the log of the node with its vertex.
+-- A log that was cut in the entry after it, mended, is the node's log. Where all of that entry is there, it is the log
+-- of the node with its vertex.
 abbrev pub CutLogIsMended : Type 0
 CutLogIsMended = (n : NodeState) (v : Vertex) (file : Option (List ℕ)) → IsSound n → HasCutLog n v file → VertexInRange v → VertexFits v → MendsTo n file ⊎ MendsTo (with_entry n v) file

@@ -26,11 +26,12 @@ pub record IsUndisturbed (ends_old ends_new : ℕ) (e : SessionEnd) : Type 0 whe
   pub log : IsLogEnd log_old log_new e
   pub no_log : Rose log_old log_new → ⊥
 
--- it ended as both said, or for want of memory
+-- it ended as both said, or out of memory
 abbrev pub IsWhole : SessionEnd → Type 0
 IsWhole e = (e ≡ end.Done) ⊎ (e ≡ end.OutOfMemory)
 
--- Where what the peer sent, with what it would still send, are frames of a whole session, up to its Done, a node that serves it ends so.
+-- What the peer sent, with what it would still send, are frames of a whole session, up to its Done. Then a node that
+-- serves it ends so.
 abbrev pub ServesAreComplete : Type 0
 ServesAreComplete = (n m : NodeState) (read written : List ℕ) (tells : Bool) (held_old held_new : List ℕ → Option (List ℕ)) (ends_old ends_new : ℕ) (e : SessionEnd)
     → Serves tells (standing n held_old) read written (standing m held_new) ends_old ends_new e → IsUndisturbed ends_old ends_new e

@@ -1,4 +1,4 @@
--- That there are replays and runs that are cut short, with consumers that were told by then: the statements.
+-- That there are replays and runs that are cut short, with consumers that were passed blocks by then: the statements.
 -- Source: ours.
 use Rattle.std.specs.Prelude.{◌≡◌, ℕ, true, List, [], length, map, Option, Some, None, Ok, Err}
 use Rattle.std.specs.List.{range_with_len}
@@ -38,17 +38,17 @@ plain_sight = seen (λ b. Some b) (λ b. 0) (λ b. 0) (λ b. tt)
 abbrev pub all_took : List (ℕ × List ℕ) → List Consumed → List Consumed
 all_took blocks consumers = map (with_more blocks) consumers
 
--- each of them took these blocks too, and then heard that no block follows
+-- each of them took these blocks too, and then that no block follows
 abbrev pub all_finished : List (ℕ × List ℕ) → List Consumed → List Consumed
 all_finished blocks consumers = map (λ c. after_finish (answer_of None) (with_more blocks c)) consumers
 
--- what is kept of consumers that were passed so many blocks, and are all left
+-- what is kept of consumers that were passed this many blocks, and are all left
 abbrev pub none_dropped : List Consumed → ℕ → FanoutState Consumed
 none_dropped consumers count = record { passed = count; places = range_with_len 0 (length consumers); drops = []; gone = [] }
 
 -- ---- replays
 
--- Wherever a replay comes to, consumers that take what they are told were fed up to there.
+-- Wherever a replay comes to, consumers that take what they are passed were fed up to there.
 abbrev pub ReplaysAreFed : Type 0
 ReplaysAreFed = (taken : Taken) (rest : Entries) (consumers : List Consumed) → (let chain = told_chain taken.core in
     AreFedUntil plain_sight true (rest_taken taken rest) (λ (core : CoreState). first_moment core.config consumers (none_told consumers)) (all_took chain consumers) (none_dropped consumers (length chain)))
@@ -61,11 +61,11 @@ ReplaysStop = (config : Config) (read : List LogEntry) (taken : Taken) (rest : E
 
 -- ---- runs
 
--- these settings and keys, and the log of the standing
+-- these settings and keys, and the log of the node
 abbrev pub named_as : List ℕ → List ℕ → Standing → Names
 named_as config keys a = record { config = config; keys = keys; log = a.node.log }
 
--- a door that was asked so often
+-- a door that was asked this often
 abbrev pub door_asked : ℕ → ℕ → DoorSeen
 door_asked accepts ends = door_seen None accepts 0 ends
 
@@ -73,15 +73,15 @@ door_asked accepts ends = door_seen None accepts 0 ends
 abbrev pub outside_at : Standing → DoorSeen → List ℕ → List Consumed → Outside Consumed
 outside_at a door written consumers = outside a.held door (Some written) consumers
 
--- A run of these steps begins over the files of any standing that has its log, where these settings and keys are read, and its report is cut
--- before its first byte. Its consumers took all that is decided.
+-- A run of these steps begins over the files of any node that has its log, where these settings and keys are read. Its
+-- report is cut before its first byte. Its consumers took all that is decided.
 abbrev pub IsCutAtReport : {X : Type 0} → Option ℕ → StepOver Consumed X → Type 0
 IsCutAtReport {X} me step = (a : Standing) (config keys written : List ℕ) (consumers : List Consumed) (door : DoorSeen) (number : ℕ) (x : X)
     → IsSound a.node → HasLog a.node (a.held a.node.log) → Reads true (named_as config keys a) me a.held a.node.core.config a.node.keys
     → RunsPart (runner plain_sight true (named_as config keys a) me) (course step number 0) ((outside_at a door written consumers), x) ((outside_at a door written (all_finished (told_chain a.node.core) consumers)), x) fault.Write
 
--- A node that serves began so, a peer came that sent nothing, and the line of that session is cut before its first byte. Its consumers took
--- what is decided, and heard of no end.
+-- A node that serves began so, a peer came that sent nothing, and the line of that session is cut before its first
+-- byte. Its consumers took what is decided, and no end was reported to them.
 abbrev pub ServicesAreCut : Type 0
 ServicesAreCut = (a : Standing) (config keys written : List ℕ) (consumers : List Consumed) (number : ℕ)
     → IsSound a.node → HasLog a.node (a.held a.node.log) → Reads true (named_as config keys a) None a.held a.node.core.config a.node.keys

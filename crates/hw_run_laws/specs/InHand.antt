@@ -35,7 +35,8 @@ use Rattle.hw_run_laws.specs.Calls.{IsFairServed, IsFairDriven, IsFairMet, IsRea
 
 -- ---- a planned unit
 
--- Below the limit of records the core takes the unit of the plan, under whatever signature, or has another unit of its name.
+-- Below the limit of records the core takes the unit of the plan, under whatever signature, or has another unit of its
+-- name.
 abbrev pub MayTake : CoreState → Plan → Type 0
 MayTake c p = length c.journal < c.config.max_records → (signature : Signature)
     → ((n : ℕ) × (1 ≤ n) × (delivered (setting_of c.config) c.journal p signature ≡ Ok (receipt.Admitted n)))
@@ -43,18 +44,19 @@ MayTake c p = length c.journal < c.config.max_records → (signature : Signature
 
 -- ---- a call
 
--- Behind a call the validator's own units are on one line again, and the log is that of the journal. No two different units by it of one number
--- stood in the log before or behind it, or went out of it there.
+-- After a call the validator's own units are on one line again, and the log is that of the journal. No two different
+-- units by it of one number were in the log before or after it, or went out of it there.
 pub record StaysOnLine (me : ℕ) (a b : Standing) : Type 0 where
   pub ready : IsReady me b
   pub apart : (v w : Vertex) → WentOut (a ∷ b ∷ []) v → WentOut (a ∷ b ∷ []) w
       → (x y : SignedUnit) → Among x (signed_in v) → Among y (signed_in w) → x.unit.creator ≡ me → y.unit.creator ≡ me → x.unit.seq ≡ y.unit.seq → x.unit ≡ y.unit
 
--- the door tells this session behind the others, if it tells its sessions
+-- the door reports this session after the others, if it reports its sessions
 abbrev pub TellsOne : Option (List Session) → Option (List Session) → Session → Type 0
 TellsOne old new session = new ≡ option_map (λ (sessions : List Session). sessions ++ session ∷ []) old
 
--- a node that served a peer, in the session that the door tells, took no vertex of it that brings a new unit by the validator
+-- A node served a peer, in the session that the door reports. It took no vertex of it that brings a new unit by the
+-- validator.
 abbrev pub IsFairTold : ℕ → NodeState → Option (List Session) → Option (List Session) → SessionEnd → Type 0
 IsFairTold me n old new e = (read written : List ℕ) → TellsOne old new (session_of read written e) → IsFairServed me n read
 
@@ -81,13 +83,13 @@ pub record StartsMended (n : NodeState) (name : List ℕ) (old new : List ℕ �
 
 -- ---- two nodes that met
 
--- By what the doors of a caller, who dialled this address, and of a host tell, each read what the other wrote.
+-- By the reports of the doors of a caller, who dialled this address, and of a host, each read what the other wrote.
 abbrev pub AreCrossed : List ℕ → Option (List Session) → Option (List Session) → Option (List Session) → Option (List Session) → Type 0
 AreCrossed address caller_old caller_new host_old host_new =
     (read written heard said : List ℕ) → TellsOne caller_old caller_new (meeting_session (Some address) read written (met_end.Done 0)) → TellsOne host_old host_new (meeting_session None heard said (met_end.Done 0))
     → (read ≡ said) × (heard ≡ written)
 
--- the two journals say the same and leave one state, or two different units of one digest stand in them
+-- the two journals say the same and leave one state, or two different units of one digest are in them
 pub record Agree (left right : CoreState) : Type 0 where
   pub same : SaysTheSame (setting_of left.config) left.journal right.journal ⊎ UnitsClash (setting_of left.config) left.journal right.journal
   pub state : HasSameState left.config (received_of (setting_of left.config) left.journal) (received_of (setting_of left.config) right.journal) ⊎ UnitsClash (setting_of left.config) left.journal right.journal
@@ -102,7 +104,8 @@ AreDone one other = (one ≡ met_end.Done 0) × (other ≡ met_end.Done 0)
 abbrev pub RestsOnLine : Type 0
 RestsOnLine = (me : ℕ) (a : Standing) → me < length a.node.core.config.weights → IsSound a.node → IsReady me a → StaysOnLine me a a
 
--- A door that told no session, and then one in which the peer sent nothing, tells a fair one, where the node serves,
+-- A door that reported no session, and then one in which the peer sent nothing, reports a fair one, where the node
+-- serves,
 abbrev pub QuietIsFair : Type 0
 QuietIsFair = (me : ℕ) (n : NodeState) (written : List ℕ) (e : SessionEnd) → IsFairTold me n (Some []) (Some (session_of [] written e ∷ [])) e
 
@@ -115,7 +118,7 @@ abbrev pub QuietMeetingIsFair : Type 0
 QuietMeetingIsFair = (me : ℕ) (side : Side) (address : Option (List ℕ)) (n : NodeState) (written : List ℕ) (e : MeetEnd)
     → IsFairMeeting me side address n (Some []) (Some (meeting_session address [] written e ∷ [])) e
 
--- Two doors that told no session, and then one each, in which the one read what the other wrote, are crossed.
+-- Two doors that reported no session, and then one each, in which the one read what the other wrote, are crossed.
 abbrev pub CrossedAreThere : Type 0
 CrossedAreThere = (address read written : List ℕ)
     → AreCrossed address (Some []) (Some (meeting_session (Some address) read written (met_end.Done 0) ∷ [])) (Some []) (Some (meeting_session None written read (met_end.Done 0) ∷ []))

@@ -1,4 +1,4 @@
--- That there are meetings of two nodes, behind their first words: the statements.
+-- That there are meetings of two nodes, after their first words: the statements.
 -- Source: ours.
 use Rattle.std.specs.Prelude.{◌≡◌, ℕ, ◌≤◌, Bool, true, false, List, [], ◌∷◌, ◌++◌, length, fold, bytes_eq, if◌then◌else◌, Option, Some, None, IsOk}
 use Rattle.std.specs.List.{AllByRecursion}
@@ -52,8 +52,8 @@ pub record MayBeTold (c d : CoreState) (judge : Vertex → Bool) : Type 0 where
   pub short : length (sent_bytes (words_to c d)) ≤ byte_limit
   pub takes : AllByRecursion (λ a. IsOk a) (answers_from (setting_of d.config) d.journal (judged judge (due_to (setting_of c.config) c.journal d.journal)))
 
--- Two nodes of one configuration that can tell each other all that is due, whatever they were asked before, have met, as a caller and a host,
--- and each has what was due to it.
+-- Two nodes of one configuration can say to each other all that is due, whatever they were asked before. Then they have
+-- met, as a caller and a host, and each has what was due to it.
 abbrev pub MeetingsAreThere : Type 0
 MeetingsAreThere = (config : Config) (left right : List (Vertex × Bool)) (asked_left asked_right : Option LastQuestion) (judge_left judge_right : Vertex → Bool)
     → (let l = node_of config left asked_left in let r = node_of config right asked_right in
@@ -77,15 +77,16 @@ has_block = record {
 abbrev pub by_keys : Vertex → Bool
 by_keys = verdict_of first_standing.node.keys
 
--- a door that tells no session,
+-- a door that reports no session,
 abbrev pub no_session : DoorSeen
 no_session = door_seen (Some []) 0 0 0
 
--- and one that tells a session with this address, in which the node heard these frames and said those
+-- and one that reports a session with this address, in which the node read these frames and said those
 abbrev pub one_session : Option (List ℕ) → List MeetingFrame → List MeetingFrame → DoorSeen
 one_session address heard said = door_seen (Some (record { address = address; read = sent_bytes heard; written = sent_bytes said; failed = false } ∷ [])) 0 0 0
 
--- A node that has the block dials a new one, and both meetings end as done. Only the new one took a vertex: it stands in its log, as it does in the other's.
+-- A node that has the block dials a new one, and both meetings end as done. Only the new one took a vertex: it is in
+-- its log, as it is in the other's.
 pub record OneMeets : Type 0 where
   pub due : due_to (setting_of alone) has_block.node.core.journal [] ≡ one_block ∷ []
   pub met : HaveMet alone ((one_block, true) ∷ []) [] by_keys by_keys has_block.node.core has_block.node.core

@@ -63,7 +63,8 @@ first_block value = record {
 abbrev pub first_endorsement : Digest → Vertex
 first_endorsement unit = vertex.Endorsement (record { unit = unit; endorser = 0; signature = endorsement_signature unit 0 [] })
 
--- This one is sound and ready, no unit waits in it, and it has one to make. It accepts its endorsements, where a peer brings them.
+-- This one is sound and ready, no unit waits in it, and it has one to make. It accepts its endorsements, where a peer
+-- brings them.
 pub record OneBegins : Type 0 where
   pub validator : 0 < length first_standing.node.core.config.weights
   pub sound : IsSound first_standing.node
@@ -74,8 +75,8 @@ pub record OneBegins : Type 0 where
 
 -- ---- lives
 
--- What a node does: it makes its unit at this moment with this value, accepts a vertex that is handed over, serves a peer, drives one that it
--- has told so much, or meets another node.
+-- What a node does. It makes its unit at this moment with this value, or accepts a vertex that is handed over. Or it
+-- serves a peer, drives one to which it has pushed this much, or meets another node.
 pub data Deed : Type 0 where
   making : (now : ℕ) (value : List ℕ) → Deed
   accepting : (v : Vertex) → Deed
@@ -112,8 +113,8 @@ turns_of me a (b ∷ more) (call, sound, calls) = turn_of call ∷ turns_of me b
 abbrev pub HoldsNone : ℕ → Vertex → Type 0
 HoldsNone me v = (x : SignedUnit) → Among x (signed_in v) → x.unit.creator ≢ me
 
--- The moment and the value of a unit are within the limits of `make`. A vertex that is handed over is within those of its format, whoever
--- signed it, and holds no unit by the validator.
+-- The moment and the value of a unit are within the limits of `make`. A vertex that is handed over is within those of
+-- its format, whoever signed it, and holds no unit by the validator.
 abbrev pub MayBeDone : ℕ → Deed → Type 0
 MayBeDone me (making now value) = (now < 2 ^ 63) × (length value ≤ 4096) × AreBytes value
 MayBeDone me (accepting v) = VertexInRange v × VertexFits v × HoldsNone me v
@@ -132,7 +133,8 @@ abbrev pub MayAllTurn : ℕ → List Turn → Type 0
 MayAllTurn me [] = Unit {0}
 MayAllTurn me (turn ∷ turns) = MayTurn me turn × MayAllTurn me turns
 
--- From each standing that is sound and ready there is a life of whatever calls, one after the other. Its peers send nothing.
+-- From each node that is sound and ready, with its files, there is a life of whatever calls, one after the other. Its
+-- peers send nothing.
 abbrev pub LivesAreThere : Type 0
 LivesAreThere = (me : ℕ) (a : Standing) (turns : List Turn) → me < length a.node.core.config.weights → IsSound a.node → IsReady me a → MayAllTurn me turns
     → (more : List Standing) × (calls : AreCalls me a more) × (turns_of me a more calls ≡ turns)
@@ -153,7 +155,7 @@ pub record IsWholeServed (n : NodeState) (held : List ℕ → Option (List ℕ))
 abbrev pub WholeSessionsAreThere : Type 0
 WholeSessionsAreThere = (n : NodeState) (held : List ℕ → Option (List ℕ)) → IsWholeServed n held
 
--- the marks of a node that has told a peer all, where that has told so much
+-- the marks of a node that has pushed all to a peer, where that has sent this much
 abbrev pub told_all : NodeState → ℕ → PeerMark
 told_all n pulled = record { pushed = length n.core.journal; pulled = pulled }
 
@@ -171,11 +173,11 @@ pub record IsWholeDriven (n : NodeState) (pulled : ℕ) (held : List ℕ → Opt
 abbrev pub WholeDrivesAreThere : Type 0
 WholeDrivesAreThere = (n : NodeState) (pulled : ℕ) (held : List ℕ → Option (List ℕ)) → pulled < 2 ^ 64 → unmet_in n.core ≡ [] → IsWholeDriven n pulled held
 
--- what is told of the outside of such a session
+-- what is reported of the outside of such a session
 abbrev pub NothingDisturbs : Type 0
 NothingDisturbs = IsUndisturbed 0 0 end.Done
 
--- To a peer that asks from a place of the journal on, a node says each vertex that stands there, and goes on.
+-- To a peer that asks from a place of the journal on, a node says each vertex that is there, and goes on.
 abbrev pub VerticesAreSaid : Type 0
 VerticesAreSaid = (me : ℕ) (a : Standing) (place : ℕ) (v : Vertex) → place < 2 ^ 64 → Among v (part_from a.node.core.journal place)
     → (attempt : Attempt me a a) × IsSaid attempt v × IsWhole attempt
@@ -195,7 +197,8 @@ VerticesAreTaken = (me : ℕ) (a : Standing) (v : Vertex) → VertexInRange v �
 
 -- ---- cut logs
 
--- The append of the vertex failed behind so many bytes of its entry, the node was given up, and started again from the log mended.
+-- The append of the vertex failed after this many bytes of its entry. The node was given up, and started again from the
+-- log mended.
 pub record IsTorn (me : ℕ) (a : Standing) (v : Vertex) (count : ℕ) : Type 0 where
   pub torn : Standing
   pub attempt : Attempt me a torn

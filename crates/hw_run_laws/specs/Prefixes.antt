@@ -22,21 +22,22 @@ use Rattle.hw_service.specs.Runs.{hosts_session, calls_peer}
 abbrev pub HaveNothing : {B K : Type 0} → Sight B K → List B → Type 0
 HaveNothing sight consumers = All (λ b. HasTaken [] 0 (sight.consumed b)) consumers
 
--- Of a replay that stopped, each consumer that is left has taken nothing, or else the first blocks of what the node had decided by then, in order
--- and each once.
+-- Of a replay that stopped, each consumer that is left has taken nothing, or else first blocks, in order and each once.
+-- These are of what the node had decided by then.
 abbrev pub StoppedReplays : {B K : Type 0} → Sight B K → Type 0
 StoppedReplays {B} sight = (tells : Bool) (whole : Result Taken StartFault) (old new : List B) (after : FanoutState B) → AreFedSome sight tells whole old new (none_told old) after → HaveNothing sight old
     → HaveNothing sight new
     ⊎ ((until : AreFedUntil sight tells whole (λ (core : CoreState). first_moment core.config old (none_told old)) new after) × HaveTaken sight until.taken.core after.passed new)
 
--- Of a replay that its log stopped, each consumer that is left has taken nothing, since the log has no header, or
--- else the first blocks of what its entries before the bad one decide, and nothing of what stands behind them.
+-- Of a replay that its log stopped, each consumer that is left has taken nothing, since the log has no header. Or else
+-- it took the first blocks of what its entries before the bad one decide, and nothing of what is after them.
 abbrev pub StoppedParts : {B K : Type 0} → Sight B K → Type 0
 StoppedParts {B} sight = (tells : Bool) (begun : Option Midway) (e : StartFault) (old new : List B) (after : FanoutState B) → AreFedPart sight tells begun e old new (none_told old) after → HaveNothing sight old
     → ((IsTrue tells → IsOutside e ⊎ (begun ≡ None)) × HaveNothing sight new)
     ⊎ ((part : AreFedTo sight tells begun e (λ (core : CoreState). first_moment core.config old (none_told old)) new after) × HaveTaken sight part.taken.core after.passed new)
 
--- Of a run that began and was cut short, each consumer that is left has taken the first blocks of what the node had decided where it stopped.
+-- A run began and was cut short. Each consumer that is left has taken the first blocks of what the node had decided
+-- where it stopped.
 abbrev pub TookUntil : {B K X : Type 0} → Sight B K → Course B X → Scene B × X → Outside B × X → ServiceFault → Type 0
 TookUntil sight steps first after e =
     ((stop : StopsAtStep steps first after e) × HaveTaken sight stop.last.node.core stop.last.kept.passed after.0.consumers)

@@ -61,18 +61,20 @@ vertices_sent bytes = vertices_among (frames_of bytes).given
 abbrev pub arrivals : NodeState → List Vertex → List Event
 arrivals n vs = map (λ v. arrives v (verdict_of n.keys v)) vs
 
--- After these events the node is the other one, as far as journal and log go. Its configuration, its keys and the name of its log stay.
+-- After these events the node is the other one, as far as journal and log go. Its configuration, its keys and the name
+-- of its log stay.
 pub record LivesOn (me : ℕ) (n : NodeState) (events : List Event) (m : NodeState) : Type 0 where
   pub config : m.core.config ≡ n.core.config
   pub keys : m.keys ≡ n.keys
   pub name : m.log ≡ n.log
   pub life : logged_of m ≡ life_of (setting_of n.core.config) me (logged_of n) events
 
--- The first so many of these vertices reached the node, and nothing else happened to it.
+-- The first of these vertices, this many, reached the node, and nothing else happened to it.
 abbrev pub TakesSome : NodeState → List Vertex → NodeState → Type 0
 TakesSome n vs m = (count : ℕ) × ((me : ℕ) → LivesOn me n (arrivals n (take count vs)) m)
 
--- Where a node serves a peer that sends these bytes, the first of their vertices reach it, and nothing else happens to it;
+-- Where a node serves a peer that sends these bytes, the first of their vertices reach it, and nothing else happens to
+-- it;
 abbrev pub ServedIsALife : Type 0
 ServedIsALife = (n : NodeState) (bytes : List ℕ) → TakesSome n (vertices_sent bytes) (served n bytes).state
 
@@ -80,13 +82,13 @@ ServedIsALife = (n : NodeState) (bytes : List ℕ) → TakesSome n (vertices_sen
 abbrev pub DrivenIsALife : Type 0
 DrivenIsALife = (n : NodeState) (mark : PeerMark) (bytes : List ℕ) → TakesSome n (vertices_sent bytes) (driven n mark bytes).state.node
 
--- no append failed, and there was memory
+-- no append failed, and it wasn't out of memory
 abbrev pub IsLogged : SessionEnd → Type 0
 IsLogged end.AppendFault = ⊥
 IsLogged end.OutOfMemory = ⊥
 IsLogged e = Unit {0}
 
--- So it is of the bytes that were read in a session, where no append failed and there was memory.
+-- So it is of the bytes that were read in a session, where no append failed and it wasn't out of memory.
 abbrev pub ServesIsALife : Type 0
 ServesIsALife = (n m : NodeState) (read written : List ℕ) (tells : Bool) (held_old held_new : List ℕ → Option (List ℕ)) (ends_old ends_new : ℕ) (e : SessionEnd)
     → Serves tells (standing n held_old) read written (standing m held_new) ends_old ends_new e → IsLogged e → TakesSome n (vertices_sent read) m
@@ -102,30 +104,32 @@ DrivesIsALife = (n m : NodeState) (mark now : PeerMark) (read written : List ℕ
 abbrev pub vertices_told : NodeState → List ℕ → List Vertex
 vertices_told n bytes = sent_to (length n.core.config.weights) bytes
 
--- Where a node meets another that sends these bytes, the first of their vertices reach it, and nothing else happens to it, whichever dialled.
+-- A node meets another that sends these bytes. The first of their vertices reach it, and nothing else happens to it,
+-- whichever dialled.
 abbrev pub MetIsALife : Type 0
 MetIsALife = (side : Side) (n : NodeState) (bytes : List ℕ) → TakesSome n (vertices_told n bytes) (after_meeting side n bytes)
 
--- no append failed in a meeting, and there was memory
+-- no append failed in a meeting, and it wasn't out of memory
 abbrev pub IsMetLogged : MeetEnd → Type 0
 IsMetLogged met_end.AppendFault = ⊥
 IsMetLogged met_end.OutOfMemory = ⊥
 IsMetLogged e = Unit {0}
 
--- So it is of the bytes that were read in a meeting, where no append failed and there was memory.
+-- So it is of the bytes that were read in a meeting, where no append failed and it wasn't out of memory.
 abbrev pub MeetsIsALife : Type 0
 MeetsIsALife = (side : Side) (address : Option (List ℕ)) (tells : Bool) (old new : Talker) (e : MeetEnd) → (m : NodeMeets side address tells old new e) → IsMetLogged e
     → TakesSome old.node (vertices_told old.node m.meets.read) new.node
 
 -- ---- a vertex that is handed over
 
--- no append failed in an `accept`, and there was memory
+-- no append failed in an `accept`, and it wasn't out of memory
 abbrev pub IsJudged : Result Receipt AcceptFault → Type 0
 IsJudged (Err accept_fault.AppendFault) = ⊥
 IsJudged (Err accept_fault.OutOfMemory) = ⊥
 IsJudged result = Unit {0}
 
--- A vertex that a host hands over reaches the node, and nothing else happens to it, where no append failed and there was memory.
+-- A vertex that a host hands over reaches the node, and nothing else happens to it. It is so where no append failed and
+-- it wasn't out of memory.
 abbrev pub AcceptsIsALife : Type 0
 AcceptsIsALife = (n m : NodeState) (v : Vertex) (result : Result Receipt AcceptFault) → Accepts n v m result → IsJudged result → TakesSome n (v ∷ []) m
 
@@ -153,7 +157,7 @@ AcceptsKeepsLog = (n m : NodeState) (v : Vertex) (result : Result Receipt Accept
 
 -- ---- calls that were cut
 
--- the file holds the node's log, and behind it a first part of the entry of this vertex, which the node accepts
+-- the file holds the node's log, and after it a first part of the entry of this vertex, which the node accepts
 pub record HasCutLog (n : NodeState) (v : Vertex) (file : Option (List ℕ)) : Type 0 where
   pub whole : List ℕ
   pub count : ℕ
@@ -161,8 +165,8 @@ pub record HasCutLog (n : NodeState) (v : Vertex) (file : Option (List ℕ)) : T
   pub accepted : is_accepted (answer_in n.core v true) ≡ true
   pub holds : file ≡ Some (whole ++ take count (entry_for n v))
 
--- The node took one vertex more, whose entry may be cut: it stands in the journal alone. The first of these vertices reached the node before it,
--- and so they did the one that has that vertex with its whole entry.
+-- The node took one vertex more, whose entry may be cut: it is in the journal alone. The first of these vertices
+-- reached the node before it, and so they did the one that has that vertex with its whole entry.
 pub record WasCut (n : NodeState) (vs : List Vertex) (m : NodeState) (file : Option (List ℕ)) : Type 0 where
   pub before : NodeState
   pub vertex : Vertex
@@ -195,7 +199,8 @@ abbrev pub AcceptsLeavesLog : Type 0
 AcceptsLeavesLog = (n m : NodeState) (v : Vertex) (result : Result Receipt AcceptFault) (old new : List ℕ → Option (List ℕ)) → Accepts n v m result → WritesAccepted n v m old new result
     → HasLog n (old n.log) → LeavesLog n (v ∷ []) m (new m.log)
 
--- and, whatever it answers, where it makes a unit: the log is that of the node, or the one of the node before it, cut in the unit's entry.
+-- And so it is, whatever it answers, where it makes a unit. The log is that of the node, or the one of the node before
+-- it, cut in the unit's entry.
 abbrev pub MakeLeavesLog : Type 0
 MakeLeavesLog = (n m : NodeState) (me now : ℕ) (value : List ℕ) (result : Result (Option Plan) MakeFault) (old new : List ℕ → Option (List ℕ)) → IsKept n → me < length n.core.config.weights
     → Makes n (planned_by n me now value) m result → WritesOwn n (planned_by n me now value) m old new result → HasLog n (old n.log)
@@ -207,7 +212,7 @@ MakeLeavesLog = (n m : NodeState) (me now : ℕ) (value : List ℕ) (result : Re
 abbrev pub SaysOfLog : Logged → List (List Frame) → Type 0
 SaysOfLog l said = (frames : List Frame) (v : Vertex) → Among frames said → Among (frame.Vertex v) frames → MayGoOut l v
 
--- What a node says in a session is of what stands in its log behind it, where the node serves
+-- What a node says in a session is of what is in its log after it, where the node serves
 abbrev pub ServedSaysOfLog : Type 0
 ServedSaysOfLog = (n : NodeState) (bytes : List ℕ) → SaysOfLog (logged_of (served n bytes).state) (served n bytes).said
 
@@ -215,7 +220,7 @@ ServedSaysOfLog = (n : NodeState) (bytes : List ℕ) → SaysOfLog (logged_of (s
 abbrev pub DrivenSaysOfLog : Type 0
 DrivenSaysOfLog = (n : NodeState) (mark : PeerMark) (bytes : List ℕ) → SaysOfLog (logged_of (driven n mark bytes).state.node) (driven n mark bytes).said
 
--- So it is of the bytes that were read in a session, where no append failed and there was memory.
+-- So it is of the bytes that were read in a session, where no append failed and it wasn't out of memory.
 abbrev pub ServesSaysOfLog : Type 0
 ServesSaysOfLog = (n m : NodeState) (read written : List ℕ) (tells : Bool) (held_old held_new : List ℕ → Option (List ℕ)) (ends_old ends_new : ℕ) (e : SessionEnd)
     → Serves tells (standing n held_old) read written (standing m held_new) ends_old ends_new e → IsLogged e → SaysOfLog (logged_of m) (served n read).said
@@ -225,12 +230,13 @@ abbrev pub DrivesSaysOfLog : Type 0
 DrivesSaysOfLog = (n m : NodeState) (mark now : PeerMark) (read written : List ℕ) (tells : Bool) (held_old held_new : List ℕ → Option (List ℕ)) (ends_old ends_new : ℕ) (e : SessionEnd)
     → Drives tells (driver_standing n mark held_old) read written (driver_standing m now held_new) ends_old ends_new e → IsLogged e → SaysOfLog (logged_of m) (driven n mark read).said
 
--- The node is this one, and the file holds its log. Or it took one vertex more, of whose entry a first part stands behind that log.
+-- The node is this one, and the file holds its log. Or it took one vertex more, of whose entry a first part is after
+-- that log.
 abbrev pub StandsWith : NodeState → NodeState → Option (List ℕ) → Type 0
 StandsWith logged m file = ((m ≡ logged) × HasLog logged file) ⊎ ((v : Vertex) × (m ≡ with_vertex logged v) × HasCutLog logged v file)
 
--- What a session wrote is a first part of what is said in it to the first of the bytes that were read. Each vertex of that is of the log of the node
--- that those bytes leave.
+-- What a session wrote is a first part of what is said in it to the first of the bytes that were read. Each vertex of
+-- that is of the log of the node that those bytes leave.
 pub record WroteOfLog (node : List ℕ → NodeState) (said : List ℕ → List (List Frame)) (read written : List ℕ) : Type 0 where
   pub first : List ℕ
   pub part : List ℕ
@@ -238,7 +244,7 @@ pub record WroteOfLog (node : List ℕ → NodeState) (said : List ℕ → List 
   pub wrote : IsPrefixOf written (said_bytes (said first))
   pub of_log : SaysOfLog (logged_of (node first)) (said first)
 
--- However a session ends, what it wrote is of the log that stands in the file behind it, where the node serves,
+-- However a session ends, what it wrote is of the log that is in the file after it, where the node serves,
 abbrev pub ServesWritesOfLog : Type 0
 ServesWritesOfLog = (n m : NodeState) (read written : List ℕ) (tells : Bool) (held_old held_new : List ℕ → Option (List ℕ)) (ends_old ends_new : ℕ) (e : SessionEnd)
     → Serves tells (standing n held_old) read written (standing m held_new) ends_old ends_new e
@@ -254,11 +260,11 @@ DrivesWritesOfLog = (n m : NodeState) (mark now : PeerMark) (read written : List
 abbrev pub MetSaysOf : Logged → List MeetingFrame → Type 0
 MetSaysOf l said = (v : Vertex) → Among (meeting.Vertex v) said → MayGoOut l v
 
--- What a node says in a meeting is of what stood in its log before it,
+-- What a node says in a meeting is of what was in its log before it,
 abbrev pub MetSaysOfLog : Type 0
 MetSaysOfLog = (side : Side) (n : NodeState) (bytes : List ℕ) → MetSaysOf (logged_of n) (met side n.core (verdict_of n.keys) bytes).said
 
--- and stands there behind a meeting, however that ended.
+-- and is there after a meeting, however that ended.
 abbrev pub MeetsSaysOfLog : Type 0
 MeetsSaysOfLog = (side : Side) (address : Option (List ℕ)) (tells : Bool) (old new : Talker) (e : MeetEnd) → (m : NodeMeets side address tells old new e)
     → MetSaysOf (logged_of new.node) (met side old.node.core (verdict_of old.node.keys) m.meets.read).said

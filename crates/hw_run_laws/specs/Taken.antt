@@ -16,7 +16,7 @@ use Rattle.hw_run_laws.specs.Restart.{vertex_in, vertices_sent}
 
 -- ---- the vertices of a peer
 
--- these vertices, behind another one if there is one
+-- these vertices, after another one if there is one
 abbrev pub behind : Option Vertex → List Vertex → List Vertex
 behind None vs = vs
 behind (Some v) vs = v ∷ vs
@@ -26,7 +26,7 @@ abbrev pub taken_last : Frame → SessionEnd → List Vertex
 taken_last f (end.BadFrame at) = []
 taken_last f e = behind (vertex_in f) []
 
--- the vertex of a frame, and these behind it where the session goes on
+-- the vertex of a frame, and these after it where the session goes on
 abbrev pub taken_then : Frame → Option SessionEnd → List Vertex → List Vertex
 taken_then f None vs = behind (vertex_in f) vs
 taken_then f (Some e) vs = taken_last f e
@@ -46,11 +46,12 @@ taken_driven n mark bytes = taken_over drive_step (greeting n mark) (frames_of b
 
 -- ---- what that does
 
--- the others are those of the ones, and more behind them
+-- the others are those of the ones, and more after them
 abbrev pub AreFirst : List Vertex → List Vertex → Type 0
 AreFirst vs all = (more : List Vertex) × (all ≡ vs ++ more)
 
--- These vertices are handed to a node that serves, one after the other, and nothing else changes it. They are the first that the peer sends.
+-- These vertices are handed to a node that serves, one after the other, and nothing else changes it. They are the first
+-- that the peer sends.
 abbrev pub ServedTakesThese : Type 0
 ServedTakesThese = (n : NodeState) (bytes : List ℕ) → ((served n bytes).state ≡ after_all n (taken_served n bytes)) × AreFirst (taken_served n bytes) (vertices_sent bytes)
 

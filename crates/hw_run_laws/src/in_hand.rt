@@ -1,5 +1,5 @@
-//! The laws of nodes in hand: each makes the call and recalls what holds of the node, so that it asks only
-//! what its caller can show. Beside the law is the call's own promise, so the answer is that of the call.
+//! The laws of nodes in hand. Each makes the call and recalls what holds of the node. So it asks only what its caller
+//! can show. Beside the law is the call's own promise, so the answer is that of the call.
 
 ghost use Rattle.std.specs.Prelude.{◌≡◌, ◌⊎◌, ◌<◌, ◌≤◌, ◌^◌, ℕ, None, Some, length, IsTrue, IfOk, IfErr, IfSome};
 ghost use Rattle.hw_types.specs.{Limits.{config_fault}, Real.{setting_of, received_in}, Spelling.{VertexFits}, Step.{step}};
@@ -46,8 +46,8 @@ pub fn a_planned_unit_may_be_taken(
     next_unit(alloc, core.state(), me, now, value)
 }
 
-/// A new node whose log wasn't there, as a law on its calls asks for: its own units are on one line, whichever
-/// validator's it is, and its log is that of its journal.
+/// A new node whose log wasn't there is as a law on its calls asks for. Its own units are on one line, whichever
+/// validator's it is. Its log is that of its journal.
 pub fn a_new_node_is_ready<F: Files>(
     alloc: Global,
     files: &mut F,
@@ -285,8 +285,8 @@ pub fn nodes_that_met_agree<D: Door, E: Door, T: Taker, U: Taker>(
     (one, other)
 }
 
-/// What these laws ask of doors is there. A session with a peer that sends nothing is a fair one, and there are two
-/// doors by which each node read what the other wrote. A node that does nothing stays on its line.
+/// What these laws ask of doors is there. A session with a peer that sends nothing is a fair one. There are two doors
+/// by which each node read what the other wrote. A node that does nothing stays on its line.
 pub fn fair_sessions_are_there()
     ensures rests { RestsOnLine }
     ensures served { QuietIsFair }

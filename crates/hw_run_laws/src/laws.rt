@@ -10,10 +10,10 @@ ghost use Rattle.hw_run_laws.specs.Restart.{ServedIsALife, DrivenIsALife, MetIsA
 ghost use Rattle.hw_run_laws.specs.Taken.{ServedTakesThese, DrivenTakesThese};
 ghost use Rattle.hw_run_laws.specs.Prefixes.{StoppedReplays, StoppedParts, CutServices, CutTurns, CutHosts, CutCalls};
 
-/// Where a replay or a run stops, each consumer that is left, and had taken nothing before, has taken the first blocks
-/// of the chain that the node had decided by then: in order, and each once.
+/// Where a replay or a run stops, take a consumer that is left, and had taken nothing before. It has taken the first
+/// blocks of the chain that the node had decided by then: in order, and each once.
 ///
-/// Of a replay, `parts` is the clause to read: it says which entries of the log had been read by then, and that nothing
+/// Of a replay, `parts` is the clause to read. It says which entries of the log had been read by then, and that nothing
 /// after them was passed on. `replays` leaves open which entries these are.
 pub fn cut_runs_leave_prefixes<B, K>()
     ensures replays { (sight : Sight B K) → StoppedReplays sight }
@@ -24,14 +24,14 @@ pub fn cut_runs_leave_prefixes<B, K>()
     ensures calls { (sight : Sight B K) → CutCalls sight }
 {}
 
-/// A session that nothing outside disturbs, with a peer that sends the frames of a whole session, ends as both said,
-/// or out of memory.
+/// Take a session that nothing outside disturbs, with a peer that sends the frames of a whole session. It ends as both
+/// said, or out of memory.
 pub fn undisturbed_sessions_are_whole()
     ensures serving { ServesAreComplete }
     ensures driving { DrivesAreComplete }
 {}
 
-/// A session or a meeting does one thing to the journal and the log of a node: the first of the peer's vertices reach
+/// A session or a meeting does one thing to the journal and the log of a node. The first of the peer's vertices reach
 /// it. So its life is one of those that start again without a second unit of one number. That holds too of a vertex
 /// that a host hands over. The frames that a session handles say which vertices it takes.
 pub fn sessions_are_lives()
@@ -54,9 +54,9 @@ pub fn sessions_keep_the_log()
     ensures accepts { AcceptsKeepsLog }
 {}
 
-/// What goes out of a node in a session is of its log: a vertex that is in it, or evidence of two units that are. That
-/// is so of each byte that was written, however the session ends, also by a failed append or out of memory. What goes
-/// out in a meeting was in the log before it.
+/// What goes out of a node in a session is of its log. It is a vertex that is in it, or evidence of two units that are.
+/// That is so of each byte that was written, however the session ends, also by a failed append or out of memory. What
+/// goes out in a meeting was in the log before it.
 pub fn sessions_say_what_is_logged()
     ensures served { ServedSaysOfLog }
     ensures driven { DrivenSaysOfLog }
@@ -73,9 +73,9 @@ pub fn sessions_say_what_is_logged()
 /// of one number were ever in its log or went out. A peer is fair if no vertex that the node takes from it brings a
 /// new unit by the node.
 ///
-/// Where an append fails or there is no memory, and at the end of any other call, the node may be given up. It is
-/// started again from its log, mended where that is torn. What it said until then has no unit of its own that couldn't
-/// go out of its log before.
+/// Where an append fails or memory runs out, and at the end of any other call, the node may be given up. It is started
+/// again from its log, mended where that is torn. What it said until then has no unit of its own that couldn't go out
+/// of its log before.
 pub fn calls_keep_one_line()
     ensures kept { CallsKeepOneLine }
     ensures attempts { AttemptsKeepOneLine }
@@ -101,11 +101,11 @@ pub fn a_cut_log_is_mended()
 /// What these laws speak of is there, so none of them holds only because there is no case.
 ///
 /// A new node with its log is a beginning, and one is written out. From each beginning there is a life of whatever
-/// calls, in any order: units that are made, whatever vertices that are handed over and hold no unit by the validator,
-/// sessions and meetings with peers that send nothing, starts, and nodes that are given up. Each node has a whole
-/// session that nothing disturbs, dialled or, where no unit waits, dialling. It says the vertices of its journal to a
-/// peer that asks for them, and takes a vertex that a peer sends. Wherever the append of a unit fails, or that of a
-/// vertex that is handed over, the node may be given up, and starts again from its log, mended.
+/// calls, in any order. These are units that are made, and whatever vertices that are handed over and hold no unit by
+/// the validator. They are also sessions and meetings with peers that send nothing, starts, and nodes that are given
+/// up. Each node has a whole session that nothing disturbs, dialled or, where no unit waits, dialling. It says the
+/// vertices of its journal to a peer that asks for them, and takes a vertex that a peer sends. Wherever the append of a
+/// unit fails, or that of a vertex that is handed over, the node may be given up. It starts again from its log, mended.
 pub fn lives_are_there()
     ensures begins { NewNodesAreReady }
     ensures one { OneBegins }
@@ -121,9 +121,9 @@ pub fn lives_are_there()
 
 /// There are replays and runs that are cut short, with consumers that take what they are passed.
 ///
-/// Wherever a replay comes to, they were passed what its entries so far decide, and where an entry or the log's error
-/// stops it, no more. A run over the files of whatever node with its log, whose settings and keys are read, can be cut
-/// at its report. One that serves can be cut at the line of a session too.
+/// Wherever a replay comes to, they were passed what its entries so far decide. Where an entry or the log's error stops
+/// it, they were passed no more. A run over the files of whatever node with its log, whose settings and keys are read,
+/// can be cut at its report. One that serves can be cut at the line of a session too.
 pub fn cut_runs_are_there()
     ensures fed { ReplaysAreFed }
     ensures stopped { ReplaysStop }

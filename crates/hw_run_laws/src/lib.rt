@@ -1,12 +1,12 @@
 //! Laws of sessions, of meetings and of runs of a node.
 //!
 //! After a session or a meeting the log is that of the journal, and what went out is in it. A node started from that
-//! log makes no second unit of one number. A node that is given up where an append fails or there is no memory starts
-//! again from its log, mended where that is torn.
+//! log makes no second unit of one number. A node is given up where an append fails or memory runs out. It starts again
+//! from its log, mended where that is torn.
 //!
 //! A session that nothing outside disturbs, with a peer that sends what is due, ends as both said, or out of memory.
 //!
-//! Each law whose premises are about nodes holds of nodes in hand: a call of these recalls what holds of its node, and
+//! Each law whose premises are about nodes holds of nodes in hand. A call of these recalls what holds of its node, and
 //! asks only what its caller can show.
 //!
 //! The contract of a run that comes to its report says that each consumer that is left took the whole decided chain.

@@ -161,7 +161,7 @@ pub few : (c : Config) → config_fault c ≡ None → length c.weights ≤ 1024
 few c lawful = (within_limits c lawful).few
 
 -- a whole header before want of memory
-pub whole_before : {T : Type 0} (old new : List ℕ → Option (List ℕ)) (name bytes : List ℕ) (x : T) (e : StartFault) → Appended {T = T} {E = StartFault} old new name bytes (Ok x) → Appended {T = NodeState} old new name bytes (Err e)
+pub whole_before : {T E : Type 0} (old new : List ℕ → Option (List ℕ)) (name bytes : List ℕ) (x : T) (e : StartFault) → Appended {T = T} {E = E} old new name bytes (Ok x) → Appended {T = NodeState} old new name bytes (Err e)
 whole_before old new name bytes x e a = record {
   whole = tt;
   cut = (length bytes, ap bytes_of a.whole ∙ ap (λ (b : List ℕ). bytes_of (old name) ++ b) (sym (take-length bytes)));

@@ -32,7 +32,8 @@ given_to n v = answer_in n.core v (verdict_of n.keys v)
 
 -- ---- what is left
 
--- A unit clashes with the journal's unit of that digest, the two units of an evidence with each other. The known one is named first.
+-- A unit clashes with the journal's unit of that digest, the two units of an evidence with each other. The known one is
+-- named first.
 abbrev pub clash_units : CoreState → Vertex → Digest → ClashUnits
 clash_units c (vertex.Unit u) d = record { known = spelling_of (unit_in c d); other = unit_bytes u.unit }
 clash_units c (vertex.Evidence e) d = record { known = unit_bytes e.left.unit; other = unit_bytes e.right.unit }
@@ -48,7 +49,8 @@ refused_by n v cause.RecordsFull = record n { refused = raised n.refused; limite
 refused_by n v cause.ParkFull = record n { refused = raised n.refused; limited = raised n.limited }
 refused_by n v cause.OutOfMemory = n
 
--- the node after a vertex that had this answer: an accepted one goes last in journal and log, and one that came again is counted
+-- The node after a vertex that had this answer. An accepted one goes last in journal and log, and one that came again
+-- is counted.
 abbrev pub taken_by : NodeState → Vertex → Result Receipt Cause → NodeState
 taken_by n v (Ok receipt.Repeat) = record n { repeats = raised n.repeats }
 taken_by n v (Ok (receipt.Admitted k)) = with_entry n v
@@ -62,24 +64,25 @@ taken_by n v (Err c) = refused_by n v c
 abbrev pub IsTakenIn : NodeState → Vertex → Type 0
 IsTakenIn n v = is_accepted (given_to n v) ≡ true
 
--- the vertex was accepted, and stands in the journal alone
+-- the vertex was accepted, and is in the journal alone
 abbrev pub IsUnlogged : NodeState → Vertex → NodeState → Type 0
 IsUnlogged n v m = IsTakenIn n v × (m ≡ with_vertex n v)
 
--- it is a cause by which a node refuses, and no want of memory
+-- it is a cause by which a node refuses, and not out of memory
 abbrev pub IsOfNode : Cause → Type 0
 IsOfNode cause.OutOfMemory = ⊥
 IsOfNode c = Unit {0}
 
--- The answer is that of the definitions, and the node is what it leaves. Where the append failed, the vertex stands in the journal
--- alone, and so it may without memory.
+-- The answer is that of the definitions, and the node is what it leaves. Where the append failed, the vertex is in the
+-- journal alone. So it may be where memory ran out.
 abbrev pub Accepts : NodeState → Vertex → NodeState → Result Receipt AcceptFault → Type 0
 Accepts n v m (Ok r) = (given_to n v ≡ Ok r) × (m ≡ taken_by n v (Ok r))
 Accepts n v m (Err (fault.Refused c)) = IsOfNode c × (given_to n v ≡ Err c) × (m ≡ taken_by n v (Err c))
 Accepts n v m (Err fault.AppendFault) = IsUnlogged n v m
 Accepts n v m (Err fault.OutOfMemory) = (m ≡ n) ⊎ IsUnlogged n v m
 
--- The entry of an accepted vertex is appended to the log, and after a fault of the append a first part of it. Nothing else is written.
+-- The entry of an accepted vertex is appended to the log, and after a fault of the append a first part of it. Nothing
+-- else is written.
 abbrev pub WritesAccepted : NodeState → Vertex → NodeState → (List ℕ → Option (List ℕ)) → (List ℕ → Option (List ℕ)) → Result Receipt AcceptFault → Type 0
 WritesAccepted n v m old new (Ok receipt.Repeat) = SameFiles old new
 WritesAccepted n v m old new (Ok (receipt.Admitted k)) = Appended {E = AcceptFault} old new n.log (entry_for n v) (Ok (receipt.Admitted k))
@@ -112,7 +115,7 @@ kept_by n (receipt.Dropped rule) e = record n { lasts = with_noted n.lasts e.not
 abbrev pub IsOfAccepted : Receipt → Type 0
 IsOfAccepted r = is_accepted (Ok r) ≡ true
 
--- so it is kept, or the append failed or found no memory
+-- so it is kept, or the append failed or ran out of memory
 abbrev pub Keeps : NodeState → Receipt → NewEntry → NodeState → Result Receipt AcceptFault → Type 0
 Keeps n r e m (Ok answer) = (answer ≡ r) × (m ≡ kept_by n r e)
 Keeps n r e m (Err (fault.Refused c)) = ⊥
@@ -126,7 +129,7 @@ WritesReceipt n (receipt.Admitted k) e old new result = Appended old new n.log e
 WritesReceipt n (receipt.Parked k) e old new result = Appended old new n.log e.bytes result
 WritesReceipt n (receipt.Dropped rule) e old new result = Appended old new n.log e.bytes result
 
--- a refused vertex is counted and a clash is kept, unless there is no memory for that
+-- a refused vertex is counted and a clash is kept, unless memory runs out
 abbrev pub Counts : NodeState → Vertex → Cause → NodeState → Result Receipt AcceptFault → Type 0
 Counts n v (cause.Clash d) m result = ((result ≡ Err fault.OutOfMemory) × (m ≡ n)) ⊎ ((result ≡ Err (fault.Refused (cause.Clash d))) × (m ≡ refused_by n v (cause.Clash d)))
 Counts n v cause.OutOfMemory m result = (result ≡ Err fault.OutOfMemory) × (m ≡ n)

@@ -27,7 +27,8 @@ abbrev pub IsDue : Stage → NodeState → PeerMark → Type 0
 IsDue (stage.Pushing left) n mark = mark.pushed < length n.core.journal
 IsDue s n mark = Unit {0}
 
--- It reacted so: its node did, its marks are those of the reaction, and where it goes on it waits for what the reaction says.
+-- It reacted so. Its node did, and its marks are those of the reaction. Where it goes on it waits for what the reaction
+-- says.
 pub record ReactsAs (tells : Bool) (before : Standing) (f : Frame) (r : Reaction Driver) (after : DriverStanding) (old new : Option (List Session)) (result : Result Stage SessionEnd) : Type 0 where
   pub node : Reacts tells before f (node_part r) (standing after.node after.held) old new result
   pub marks : after.mark ≡ r.state.mark

@@ -20,7 +20,7 @@ use Rattle.hw_session.specs.declared.stage.Stage.TheVariants as stage
 use Rattle.hw_session.specs.Node.{NodeState}
 use Rattle.hw_session.specs.Accept.{given_to, taken_by}
 
--- a node that drives a session: what it waits for, where it stands, and its marks of the peer
+-- a node that drives a session: what it waits for, the node itself, and its marks of the peer
 pub record Driver : Type 0 where
   pub stage : Stage
   pub node : NodeState
@@ -45,16 +45,16 @@ want_some d (n ∷ ns) = goes_on (waiting d stage.Wanting) (frame.Want (n ∷ ns
 abbrev pub want : Driver → Reaction Driver
 want d = want_some d (take 64 (unmet_in d.node.core))
 
--- the third: a Have of the place up to which the peer has told; it may be asked so many times more
+-- the third: a Have of the place up to which the peer sent its journal; it may be asked this many times more
 abbrev pub pull : Driver → ℕ → Reaction Driver
 pull d again = goes_on (waiting d (stage.Pulling again)) (frame.Have d.mark.pulled ∷ [])
 
--- the first of these vertices, behind which so many are to be pushed
+-- the first of these vertices, after which this many are to be pushed
 abbrev pub push_first : Driver → ℕ → List Vertex → Reaction Driver
 push_first d left [] = pull d 64
 push_first d left (v ∷ vs) = goes_on (waiting d (stage.Pushing left)) (frame.Vertex v ∷ [])
 
--- the second: the next vertex that the peer wasn't told, if so many are still to be pushed
+-- the second: the next vertex that wasn't pushed to the peer, if this many are still to be pushed
 abbrev pub push : Driver → ℕ → Reaction Driver
 push d zero = pull d 64
 push d (suc left) = push_first d left (drop d.mark.pushed d.node.core.journal)
@@ -74,7 +74,7 @@ abbrev pub drive_greeting : Driver → ℕ → Frame → Reaction Driver
 drive_greeting d at (frame.Hello instance) = if digest_eq instance (instance_of d.node.core.config) then push d (to_push d) else ends d [] end.WrongInstance
 drive_greeting d at f = not_due d at
 
--- the peer was told one vertex more
+-- one vertex more was pushed to the peer
 abbrev pub with_pushed : Driver → Driver
 with_pushed d = record d { mark = record d.mark { pushed = d.mark.pushed + 1 } }
 
@@ -93,11 +93,12 @@ after_vertex d (Err c) = goes_on d []
 abbrev pub drive_vertex : Driver → Vertex → Reaction Driver
 drive_vertex d v = after_vertex (record d { node = taken_by d.node v (given_to d.node v) }) (given_to d.node v)
 
--- the peer has told up to this place
+-- the peer sent its journal up to this place
 abbrev pub with_pulled : Driver → ℕ → Driver
 with_pulled d place = record d { mark = record d.mark { pulled = place } }
 
--- The place up to which the peer has told now. It is asked again until that stays, but no more than so many times.
+-- The place up to which the peer has sent its journal now. It is asked again until that stays, but no more than this
+-- many times.
 abbrev pub drive_have : Driver → ℕ → ℕ → Reaction Driver
 drive_have d zero place = want (with_pulled d place)
 drive_have d (suc more) place = if place == d.mark.pulled then want (with_pulled d place) else pull (with_pulled d place) more

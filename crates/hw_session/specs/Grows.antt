@@ -15,11 +15,11 @@ pub record GrowsBy (old new : List ℕ → Option (List ℕ)) (name bytes : List
   pub stays : IsSome (old name) → IsSome (new name)
   pub others : (other : List ℕ) → other ≢ name → new other ≡ old other
 
--- the entries of these vertices behind the node's last units, each with a true verdict
+-- the entries of these vertices after the node's last units, each with a true verdict
 abbrev pub entries_for : NodeState → List Vertex → List ℕ
 entries_for n vs = entries_bytes n.lasts (true_entries vs)
 
--- These vertices went last in the journal, and the last units are those behind them.
+-- These vertices went last in the journal, and the last units are those after them.
 pub record Gains (n : NodeState) (vs : List Vertex) (m : NodeState) : Type 0 where
   pub journal : m.core.journal ≡ n.core.journal ++ vs
   pub lasts : m.lasts ≡ lasts_behind n.lasts (true_entries vs)
@@ -31,7 +31,8 @@ pub record Logs (n m : NodeState) (tells : Bool) (old new : List ℕ → Option 
   pub gains : Gains n vertices m
   pub log : IsTrue tells → GrowsBy old new n.log (entries_for n vertices)
 
--- The same up to this node, which accepted one more vertex: it stands in the journal, and the log may hold a first part of its entry.
+-- The same up to this node, which accepted one more vertex. That is in the journal, and the log may hold a first part
+-- of its entry.
 pub record LogsAllBut (n before : NodeState) (v : Vertex) (m : NodeState) (tells : Bool) (old new : List ℕ → Option (List ℕ)) : Type 0 where
   pub vertices : List Vertex
   pub gains : Gains n vertices before

@@ -33,7 +33,7 @@ use Rattle.hw_session.specs.Standing.{Standing}
 
 -- ---- what it did by a reaction
 
--- it stands where the reaction says, with its log, and sent this
+-- it is what the reaction leaves, with its log, and sent this
 pub record Took (tells : Bool) (before : Standing) (r : Reaction NodeState) (sent : List ℕ) (failed : Bool) (after : Standing) (old new : Option (List Session)) : Type 0 where
   pub state : after.node ≡ r.state
   pub logs : Logs before.node after.node tells before.held after.held
@@ -45,7 +45,8 @@ pub record Stayed (tells : Bool) (before after : Standing) (old new : Option (Li
   pub files : IsTrue tells → SameFiles before.held after.held
   pub told : new ≡ old
 
--- It accepted the frame's vertex, whose entry may be cut, and sent nothing. With all of the entry it would stand where the reaction says.
+-- It accepted the frame's vertex, whose entry may be cut, and sent nothing. With all of the entry it would be what the
+-- reaction leaves.
 pub record WasCut (tells : Bool) (before : Standing) (f : Frame) (r : Reaction NodeState) (after : Standing) (old new : Option (List Session)) : Type 0 where
   pub vertex : Vertex
   pub frame_is : f ≡ frame.Vertex vertex
@@ -53,7 +54,7 @@ pub record WasCut (tells : Bool) (before : Standing) (f : Frame) (r : Reaction N
   pub logs : LogsAllBut before.node before.node vertex after.node tells before.held after.held
   pub told : new ≡ old
 
--- It did what the reaction says, and sent all of the answer; or a fault of the link or want of memory cut that short.
+-- It did what the reaction says, and sent all of the answer. Or a fault of the link cut that short, or memory ran out.
 abbrev pub Reacts : {T : Type 0} → Bool → Standing → Frame → Reaction NodeState → Standing → Option (List Session) → Option (List Session) → Result T SessionEnd → Type 0
 Reacts tells before f r after old new (Ok x) = (r.end ≡ None) × Took tells before r (sent_bytes r.says) false after old new
 Reacts tells before f r after old new (Err end.LinkFault) = (part : List ℕ) × IsPrefixOf part (sent_bytes r.says) × Took tells before r part true after old new
@@ -74,7 +75,7 @@ Answers r old new (Err e) = (r.end ≡ Some e) × (new ≡ after_part [] (sent_b
 
 -- ---- what it did alike, whether it serves or drives
 
--- the peer is of another instance, or there was no memory to tell
+-- the peer is of another instance, or memory ran out
 abbrev pub IsOfOther : NodeState → Digest → SessionEnd → Type 0
 IsOfOther n peers end.WrongInstance = digest_eq peers (instance_of n.core.config) ≡ false
 IsOfOther n peers end.OutOfMemory = Unit {0}
@@ -85,7 +86,8 @@ pub record Takes (n : NodeState) (v : Vertex) (m : NodeState) (tells : Bool) (he
   pub accepts : Accepts n v m answer
   pub writes : IsTrue tells → WritesAccepted n v m held_old held_new answer
 
--- A session goes on with the receipt of an accepted vertex, and with none where it was refused. A clash ends it, and so does a fault of the log.
+-- A session goes on with the receipt of an accepted vertex, and with none where it was refused. A clash ends it, and so
+-- does a fault of the log.
 abbrev pub Receives : NodeState → Vertex → NodeState → Bool → (List ℕ → Option (List ℕ)) → (List ℕ → Option (List ℕ)) → Result (Option Receipt) SessionEnd → Type 0
 Receives n v m tells held_old held_new (Ok (Some r)) = Takes n v m tells held_old held_new (Ok r)
 Receives n v m tells held_old held_new (Ok None) = (c : Cause) × (is_clash c ≡ false) × Takes n v m tells held_old held_new (Err (fault.Refused c))

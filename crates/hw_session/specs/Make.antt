@@ -70,8 +70,9 @@ pub record IsTooMany (n : NodeState) (planned : Option Plan) : Type 0 where
 abbrev pub IsNothing : NodeState → Option Plan → Type 0
 IsNothing n planned = (planned ≡ None) ⊎ ((p : Plan) × (planned ≡ Some p) × IsNamesake n p)
 
--- The unit of the plan is made and goes last in journal and log. Nothing is made where there is nothing to make. Where the journal is full,
--- that is counted. Where the append fails, the unit stands in the journal alone, and so it may without memory.
+-- The unit of the plan is made and goes last in journal and log. Nothing is made where there is nothing to make. Where
+-- the journal is full, that is counted. Where the append fails, the unit is in the journal alone. So it may be where
+-- memory ran out.
 abbrev pub Makes : NodeState → Option Plan → NodeState → Result (Option Plan) MakeFault → Type 0
 Makes n planned m (Ok (Some p)) = IsToMake n planned p × (m ≡ with_entry n (own_vertex n p))
 Makes n planned m (Ok None) = IsNothing n planned × (m ≡ n)
@@ -114,7 +115,8 @@ fault_of_append _ = fault.OutOfMemory
 
 -- ---- what is written
 
--- The entry of the unit that is made is appended to the log, and after a fault of the append a first part of it. Nothing else is written.
+-- The entry of the unit that is made is appended to the log. After a fault of the append a first part of it is. Nothing
+-- else is written.
 abbrev pub WritesOwn : NodeState → Option Plan → NodeState → (List ℕ → Option (List ℕ)) → (List ℕ → Option (List ℕ)) → Result (Option Plan) MakeFault → Type 0
 WritesOwn n planned m old new (Ok (Some p)) = Appended {E = MakeFault} old new n.log (entry_for n (own_vertex n p)) (Ok p)
 WritesOwn n planned m old new (Ok None) = SameFiles old new

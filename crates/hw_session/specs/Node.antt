@@ -11,8 +11,9 @@ use Rattle.hw_log.specs.Lasts.{LastUnits, no_lasts}
 use Rattle.hw_replay.specs.Ends.{IsReached}
 use Rattle.hw_session.specs.declared.node.ClashUnits.{ClashUnits}
 
--- What a node is: what it received, the keys of all validators, the name of its log and the last units there, how many vertices
--- were refused, how many came again and how many met a limit, and the last clash with a peer's vertex.
+-- What a node is. It has what it received, the keys of all validators, the name of its log and the last units there. It
+-- counts the vertices that were refused, that came again and that met a limit. It keeps the last clash with a peer's
+-- vertex.
 pub record NodeState : Type 0 where
   pub core : CoreState
   pub keys : List (List ℕ)

@@ -3,8 +3,8 @@
 use Rattle.std.specs.Prelude.{ℕ, Bool, List, Option}
 use Rattle.hw_io.specs.Doors.{Ask}
 
--- what a door tells beside its sessions and its faults: whether a session is there, how often a peer's bytes ended, how often it was asked
--- to accept and to dial a peer, and the calls of `read`
+-- What a door reports beside its sessions and its faults: whether a session is there, and how often a peer's bytes
+-- ended. It reports too how often it was asked to accept and to dial a peer, and the calls of `read`.
 pub record DoorCalls : Type 0 where
   pub is_open : Bool
   pub ends : ℕ

@@ -24,7 +24,7 @@ use Rattle.hw_session.specs.Make.{planned_by, Makes, WritesOwn}
 
 -- ---- the log of a journal
 
--- an entry for each vertex, with a true verdict. Where it is to stand doesn't count when it is written
+-- An entry for each vertex, with a true verdict. Its place in the log isn't needed to write it.
 abbrev pub true_entries : List Vertex → List LogEntry
 true_entries vs = map (λ v. record { at = 0; verdict = true; vertex = v }) vs
 
@@ -32,7 +32,7 @@ true_entries vs = map (λ v. record { at = 0; verdict = true; vertex = v }) vs
 abbrev pub journal_log : ℕ → Config → List Vertex → List ℕ
 journal_log version config journal = log_bytes version config (true_entries journal)
 
--- the last units behind these entries
+-- the last units after these entries
 abbrev pub journal_lasts : ℕ → Config → List Vertex → LastUnits
 journal_lasts version config journal = lasts_behind (no_lasts version (length config.weights)) (true_entries journal)
 
@@ -48,14 +48,14 @@ LogGivesBack = (version : ℕ) (config : Config) (deliveries : List (Vertex × B
 
 -- ---- the log of a node
 
--- the file holds the log of the node's journal, and the node goes on behind it
+-- the file holds the log of the node's journal, and the node goes on after it
 pub record HasLog (n : NodeState) (file : Option (List ℕ)) : Type 0 where
   pub version : ℕ
   pub known : IsVersion version
   pub holds : file ≡ Some (journal_log version n.core.config n.core.journal)
   pub lasts : n.lasts ≡ journal_lasts version n.core.config n.core.journal
 
--- what stands in its journal, and what in its log
+-- what is in its journal, and what in its log
 abbrev pub logged_of : NodeState → Logged
 logged_of n = record { journal = n.core.journal; log = n.core.journal }
 
@@ -73,7 +73,8 @@ abbrev pub MakeIsAnEvent : Type 0
 MakeIsAnEvent = (n m : NodeState) (me now : ℕ) (value : List ℕ) (made : Option Plan) → IsKept n → me < length n.core.config.weights → Makes n (planned_by n me now value) m (Ok made)
     → (signature : Signature) × (logged_of m ≡ after_event (setting_of n.core.config) me (logged_of n) (make now value signature))
 
--- A node keeps the line of its own units whatever `make` answers, and the number of the unit that it makes is how many it made before.
+-- A node keeps the line of its own units whatever `make` answers. The number of the unit that it makes is how many it
+-- made before.
 pub record KeepsLine (n : NodeState) (me : ℕ) (m : NodeState) (result : Result (Option Plan) MakeFault) : Type 0 where
   pub line : OneLine (setting_of n.core.config) n.core.journal me → OneLine (setting_of n.core.config) m.core.journal me
   pub number : IfOk result (λ made. IfSome made (λ p. OneLine (setting_of n.core.config) n.core.journal me → p.unit.seq ≡ length (units_by (setting_of n.core.config) n.core.journal me)))

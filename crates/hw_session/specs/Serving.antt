@@ -28,7 +28,7 @@ use Rattle.hw_session.specs.Accept.{given_to, taken_by}
 abbrev pub part_from : List Vertex → ℕ → List Vertex
 part_from journal place = take 256 (drop place journal)
 
--- To a Have: these vertices, and the place behind the last of them.
+-- To a Have: these vertices, and the place after the last of them.
 abbrev pub answer_to_have : List Vertex → ℕ → List Frame
 answer_to_have journal place = map frame.Vertex (part_from journal place) ++ frame.Have (place + length (part_from journal place)) ∷ []
 
@@ -76,7 +76,7 @@ serve_first n (frame.Hello instance) =
     if digest_eq instance (instance_of n.core.config) then goes_on n (frame.Hello (instance_of n.core.config) ∷ []) else ends n [] end.WrongInstance
 serve_first n f = ends n [] (end.BadFrame 0)
 
--- a frame behind the first one
+-- a frame after the first one
 abbrev pub serve_frame : NodeState → ℕ → Frame → Reaction NodeState
 serve_frame n at (frame.Hello instance) = ends n [] (end.BadFrame at)
 serve_frame n at (frame.Vertex v) = serve_vertex n v

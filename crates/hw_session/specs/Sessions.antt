@@ -23,7 +23,7 @@ use Rattle.hw_session.specs.Standing.{Standing}
 
 -- ---- how it ended
 
--- the outside failed, or there was no memory
+-- the outside failed, or it was out of memory
 abbrev pub IsOfOutside : SessionEnd → Type 0
 IsOfOutside end.LinkFault = Unit {0}
 IsOfOutside end.AppendFault = Unit {0}
@@ -34,8 +34,8 @@ IsOfOutside e = ⊥
 abbrev pub EndsAs : SessionEnd → SessionEnd → Type 0
 EndsAs e said = (e ≡ said) ⊎ IsOfOutside e
 
--- The number of ends rose where the peer's bytes ended. A frame that is refused whatever comes behind it needs no end. As many bytes were
--- read as may be where that ends the session.
+-- The number of ends rose where the peer's bytes ended. A frame that is refused whatever comes after it needs no end.
+-- As many bytes were read as may be where that ends the session.
 abbrev pub IsEndOf : NodeState → List ℕ → ℕ → ℕ → SessionEnd → Type 0
 IsEndOf n read before now end.EndOfInput = now ≡ raised before
 IsEndOf n read before now (end.BadFrame at) = (now ≡ raised before) ⊎ ((more : List ℕ) → length (read ++ more) ≤ byte_limit → (served n (read ++ more)).end ≡ end.BadFrame at)
@@ -49,17 +49,18 @@ IsCutEnd (end.BadFrame at) = Unit {0}
 IsCutEnd end.ByteLimit = Unit {0}
 IsCutEnd e = ⊥
 
--- No byte was read past a frame that ends the session: where fewer are read, it ends as one that is cut, and not by Done, by a Hello of another
--- instance or by a clash.
+-- No byte was read past a frame that ends the session. Where fewer are read, it ends as one that is cut. It doesn't end
+-- by Done, by a Hello of another instance or by a clash.
 abbrev pub IsReadNoFurther : (List ℕ → SessionEnd) → List ℕ → Type 0
 IsReadNoFurther ends read = (first part : List ℕ) → read ≡ first ++ part → part ≢ [] → IsCutEnd (ends first)
 
--- So it is of each session but one that had no memory, which may end inside whatever frame is there.
+-- So it is of each session but one that ran out of memory, which may end inside whatever frame is there.
 abbrev pub StopsReading : SessionEnd → (List ℕ → SessionEnd) → List ℕ → Type 0
 StopsReading end.OutOfMemory ends read = Unit {0}
 StopsReading e ends read = IsReadNoFurther ends read
 
--- Each frame but the last was answered whole before the next was read. Where there was no memory, `Leaves` says it of the frames that were handled.
+-- Each frame but the last was answered whole before the next was read. Out of memory, `Leaves` says it of the frames
+-- that were handled.
 abbrev pub IsAnswered : SessionEnd → List (List Frame) → List ℕ → Type 0
 IsAnswered end.OutOfMemory said written = Unit {0}
 IsAnswered e said written = length (said_bytes (before_last said)) ≤ length written
@@ -70,7 +71,7 @@ IsSaidSoFar said written = IsPrefixOf written (said_bytes said) × (length (said
 
 -- ---- what it left
 
--- It stands where the first of these bytes leave it, and so does its log. It wrote no more than it says to them.
+-- It is as the first of these bytes leave it, and so is its log. It wrote no more than it says to them.
 pub record StandsBefore (tells : Bool) (before : Standing) (read written : List ℕ) (after : Standing) : Type 0 where
   pub first : List ℕ
   pub part : List ℕ
@@ -79,8 +80,8 @@ pub record StandsBefore (tells : Bool) (before : Standing) (read written : List 
   pub logs : Logs before.node after.node tells before.held after.held
   pub wrote : IsSaidSoFar (served before.node first).said written
 
--- The last frame's vertex was accepted, and its entry may be cut. All of these bytes leave the node that has that vertex with its whole entry.
--- It wrote what it says to the bytes before that frame, and nothing behind it.
+-- The last frame's vertex was accepted, and its entry may be cut. All of these bytes leave the node that has that
+-- vertex with its whole entry. It wrote what it says to the bytes before that frame, and nothing after it.
 pub record StandsCut (tells : Bool) (before : Standing) (read written : List ℕ) (after : Standing) : Type 0 where
   pub first : List ℕ
   pub part : List ℕ
@@ -91,8 +92,8 @@ pub record StandsCut (tells : Bool) (before : Standing) (read written : List ℕ
   pub logs : LogsAllBut before.node (served before.node first).state vertex after.node tells before.held after.held
   pub wrote : written ≡ said_bytes (served before.node first).said
 
--- The node stands where the bytes leave it, and so does its log. Where an append failed the last entry may be cut, and where there was
--- no memory the node may stand before the last bytes: it stands, with its log, where what it wrote says.
+-- The node is as the bytes leave it, and so is its log. Where an append failed the last entry may be cut. Out of memory
+-- the node may be as it was before the last bytes. Then it is, with its log, as what it wrote says.
 abbrev pub Leaves : SessionEnd → Bool → Standing → List ℕ → List ℕ → Standing → Type 0
 Leaves end.AppendFault tells before read written after = StandsCut tells before read written after
 Leaves end.OutOfMemory tells before read written after = StandsBefore tells before read written after ⊎ StandsCut tells before read written after
@@ -100,7 +101,7 @@ Leaves e tells before read written after = (after.node ≡ (served before.node r
 
 -- ---- one session
 
--- A node served a peer that sent these bytes: how the session ended, what was written, and where the node stands.
+-- A node served a peer that sent these bytes: how the session ended, what was written, and what it left of the node.
 pub record Serves (tells : Bool) (before : Standing) (read written : List ℕ) (after : Standing) (ends_old ends_new : ℕ) (e : SessionEnd) : Type 0 where
   pub within : length read ≤ byte_limit
   pub ended : EndsAs e (served before.node read).end
@@ -117,18 +118,18 @@ pub record ServesThere (tells : Bool) (before after : Standing) (old new : DoorT
   pub serves : Serves tells before read written after old.ends new.ends e
   pub told : new.sessions ≡ after_part read written (is_link_fault {T = Unit {0}} (Err e)) old.sessions
 
--- a session in which these bytes were read and those written; a call failed in it where it ended by that
+-- A session in which these bytes were read and those written. A call failed in it where it ended by that.
 abbrev pub session_of : List ℕ → List ℕ → SessionEnd → Session
 session_of read written e = record { address = None; read = read; written = written; failed = is_link_fault {T = Unit {0}} (Err e) }
 
--- A node served a peer, in a session that the door tells behind the others.
+-- A node served a peer, in a session that the door reports after the others.
 pub record ServesPeer (tells : Bool) (before after : Standing) (old new : DoorTold) (e : SessionEnd) : Type 0 where
   pub read : List ℕ
   pub written : List ℕ
   pub serves : Serves tells before read written after old.ends new.ends e
   pub told : new.sessions ≡ option_map (λ (sessions : List Session). sessions ++ session_of read written e ∷ []) old.sessions
 
--- there was no memory to take a peer, and nothing was done
+-- it was out of memory before it took a peer, and nothing was done
 pub record ServesNone (tells : Bool) (before after : Standing) (old new : Option (List Session)) (e : SessionEnd) : Type 0 where
   pub ended : e ≡ end.OutOfMemory
   pub state : after.node ≡ before.node

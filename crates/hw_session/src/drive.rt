@@ -1,7 +1,7 @@
 //! Driving a session with a peer.
 
-ghost use Rattle.std.specs.Prelude.{◌≡◌, ◌⊎◌, ◌<◌, ◌≤◌, [], ℕ, List, Option, take, true, false, length, Err, IfOk, All};
-ghost use Rattle.hw_types.specs.{Spelling.{FrameFits, VertexFits}, Spelling.{instance_of}};
+ghost use Rattle.std.specs.Prelude.{◌≡◌, ◌⊎◌, ◌<◌, ◌≤◌, [], List, Option, take, true, false, length, Err, IfOk, All};
+ghost use Rattle.hw_types.specs.Spelling.{FrameFits, instance_of};
 ghost use Rattle.hw_types.specs.declared.answers.Frame.TheVariants as frame;
 ghost use Rattle.hw_io.specs.{Faults.{raised}, Doors.{Session, AsksMore}};
 ghost use Rattle.hw_link.specs.Asked.{IsAskedInside, IsAskedBehind, IsPrompt};
@@ -9,10 +9,8 @@ ghost use Rattle.hw_link.specs.Frames.{byte_limit, frame_here, framed, sent_byte
 ghost use Rattle.hw_link.specs.Links.{after_part, IsLinkCounted};
 ghost use Rattle.hw_link.specs.Sent.{Sends};
 ghost use Rattle.hw_link.specs.Told.{door_told};
-ghost use Rattle.hw_session.specs.declared.stage.PeerMark.{PeerMark};
 ghost use Rattle.hw_session.specs.declared.stage.Stage.TheVariants as stage;
-ghost use Rattle.hw_session.specs.Node.{NodeState};
-ghost use Rattle.hw_session.specs.Driving.{Driver, driven_said, hello, greeting, leave, want, pull, push, to_push, drive_step, drive_at, drive_greeting, drive_pushing, drive_have, drive_pulling, drive_wanting, drive_vertex};
+ghost use Rattle.hw_session.specs.Driving.{Driver, driven_said, hello, greeting, leave, want, pull, push, to_push, drive_step, drive_at, drive_greeting, drive_pushing, drive_have, drive_pulling, drive_wanting};
 ghost use Rattle.hw_session.specs.Outside.{door_calls, reading};
 ghost use Rattle.hw_session.specs.Handling.{Quits, IsLogCounted, IsLogEnd, IsLinkEnd};
 ghost use Rattle.hw_session.specs.DriveHandling.{IsDue, ReactsAs, AnswersAs, HandlesAs};
@@ -26,7 +24,7 @@ use crate::say::say;
 use crate::stage::{Onward, PeerMark, Stage};
 use hw_io::{Door, Files};
 use hw_link::{BYTE_LIMIT, SessionEnd, read_frame};
-use hw_types::{Frame, MAX_LIST, Need, NeedList, OutOfMemory, Vertex};
+use hw_types::{Frame, MAX_LIST, Need, NeedList, OutOfMemory};
 
 /// How many more times a peer is asked for its journal after the first.
 const MOST_AGAIN: u64 = 64;
@@ -338,7 +336,10 @@ impl Node {
         ensures reading { reading (F.begun files.new) (F.allowance files.new) (F.read_faults files.new) ≡ reading (F.begun files.old) (F.allowance files.old) (F.read_faults files.old) }
     {
         match frame {
-            Frame::Vertex(vertex) => self.take_vertex(files, vertex, Stage::Pulling(again)),
+            Frame::Vertex(vertex) => {
+                let _taken = self.receive(files, vertex)?;
+                Ok(Stage::Pulling(again))
+            }
             Frame::Have(told) => self.drive_have(mark, door, again, told),
             _ => Err(SessionEnd::BadFrame(place)),
         }
@@ -433,14 +434,17 @@ impl Node {
         ensures reading { reading (F.begun files.new) (F.allowance files.new) (F.read_faults files.new) ≡ reading (F.begun files.old) (F.allowance files.old) (F.read_faults files.old) }
     {
         match frame {
-            Frame::Vertex(vertex) => self.take_vertex(files, vertex, Stage::Wanting),
+            Frame::Vertex(vertex) => {
+                let _taken = self.receive(files, vertex)?;
+                Ok(Stage::Wanting)
+            }
             Frame::Missing(_) => Ok(Stage::Wanting),
             Frame::Have(_) => self.leave(mark, door),
             _ => Err(SessionEnd::BadFrame(place)),
         }
     }
 
-    /// Says Done.
+    /// Says Done. For the prover: `mark` is there for the contract alone.
     fn leave<D: Door>(&self, mark: PeerMark, door: &mut D) -> Result<Stage, SessionEnd>
         requires open { D.is_open door.old ≡ true }
         ensures answers { AnswersAs self.now mark (leave (greeting self.now mark)) (D.sessions door.old) (D.sessions door.new) result }
@@ -450,24 +454,5 @@ impl Node {
     {
         say(self.alloc, door, Frame::Done)?;
         Ok(Stage::Leaving)
-    }
-
-    /// Takes a vertex of the peer, and goes on to wait for this. A clash ends the session.
-    fn take_vertex<F: Files>(
-        &mut self,
-        files: &mut F,
-        vertex: Vertex,
-        stage: Stage,
-    ) -> Result<Stage, SessionEnd>
-        requires fits { VertexFits vertex }
-        requires due { (n : NodeState) (mark : PeerMark) → IsDue stage n mark }
-        ensures reacts { (mark : PeerMark) (sessions : Option (List Session)) → ReactsAs F.tells (standing self.old (F.held files.old)) (frame.Vertex vertex) (drive_vertex (record { stage = stage; node = self.old; mark = mark }) vertex) (driver_standing self.new mark (F.held files.new)) sessions sessions result }
-        ensures appends { IsLogCounted (F.append_faults files.old) (F.append_faults files.new) result }
-        ensures link { (count : ℕ) → IsLinkCounted count count result }
-
-        ensures reading { reading (F.begun files.new) (F.allowance files.new) (F.read_faults files.new) ≡ reading (F.begun files.old) (F.allowance files.old) (F.read_faults files.old) }
-    {
-        let _taken = self.receive(files, vertex)?;
-        Ok(stage)
     }
 }

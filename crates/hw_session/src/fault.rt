@@ -14,7 +14,7 @@ pub enum MakeFault {
     AppendFault,
     /// The journal is as long as it may be.
     RecordsFull,
-    /// There was no memory. Where it was the append's, the same holds as after `AppendFault`.
+    /// Out of memory. Where that was in the append, the same holds as after `AppendFault`.
     OutOfMemory,
 }
 
@@ -34,7 +34,7 @@ pub enum AcceptFault {
     /// The append to the log failed. The vertex is in the journal, and the log holds a first part of its
     /// entry: the node has to be given up.
     AppendFault,
-    /// There was no memory. Where it was the append's, the same holds as after `AppendFault`.
+    /// Out of memory. Where that was in the append, the same holds as after `AppendFault`.
     OutOfMemory,
 }
 

@@ -90,19 +90,13 @@ impl Node {
     pub fn clash_known(&self) -> Option<&Bytes>
         ensures { option_copied result ≡ option_map (λ c. c.known) self.now.clash }
     {
-        match &self.clash {
-            Some(clash) => Some(&clash.known),
-            None => None,
-        }
+        Some(&self.clash.as_ref()?.known)
     }
 
     /// The spelling of the unit that came in the last clash with a peer's vertex, None where there was none.
     pub fn clash_other(&self) -> Option<&Bytes>
         ensures { option_copied result ≡ option_map (λ c. c.other) self.now.clash }
     {
-        match &self.clash {
-            Some(clash) => Some(&clash.other),
-            None => None,
-        }
+        Some(&self.clash.as_ref()?.other)
     }
 }

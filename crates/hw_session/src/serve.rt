@@ -111,7 +111,7 @@ impl Node {
         Ok(heard.next)
     }
 
-    /// Answers the frame that begins at this place of the session.
+    /// Answers the frame that begins at this place of the session. The first one is a Hello, and no later one is.
     fn answer<D: Door, F: Files>(
         &mut self,
         door: &mut D,
@@ -129,9 +129,15 @@ impl Node {
         ensures reading { reading (F.begun files.new) (F.allowance files.new) (F.read_faults files.new) ≡ reading (F.begun files.old) (F.allowance files.old) (F.read_faults files.old) }
     {
         if place == 0 {
-            self.answer_first(door, &frame)
-        } else {
-            self.answer_later(door, files, place, frame)
+            return self.answer_first(door, &frame);
+        }
+        match frame {
+            Frame::Vertex(vertex) => self.answer_vertex(door, files, vertex),
+            Frame::Hello(_instance) => Err(SessionEnd::BadFrame(place)),
+            Frame::Have(from) => answer_have(self.alloc, &self.core, door, from),
+            Frame::Want(needs) => answer_want(self.alloc, &self.core, door, needs.as_slice()),
+            Frame::Missing(_need) => Ok(()),
+            Frame::Done => self.answer_done(door),
         }
     }
 
@@ -159,33 +165,6 @@ impl Node {
     {
         let own = self.own_instance(instance)?;
         say(self.alloc, door, Frame::Hello(own))
-    }
-
-    /// Answers a frame after the first one.
-    fn answer_later<D: Door, F: Files>(
-        &mut self,
-        door: &mut D,
-        files: &mut F,
-        place: u64,
-        frame: Frame,
-    ) -> Result<(), SessionEnd>
-        requires fits { FrameFits frame }
-        requires open { D.is_open door.old ≡ true }
-        ensures reacts { Reacts F.tells (standing self.old (F.held files.old)) frame (serve_frame self.old place frame) (standing self.new (F.held files.new)) (D.sessions door.old) (D.sessions door.new) result }
-        ensures link { IsLinkCounted (D.faults door.old) (D.faults door.new) result }
-        ensures appends { IsLogCounted (F.append_faults files.old) (F.append_faults files.new) result }
-
-        ensures door { door_calls (D.is_open door.new) (D.ends door.new) (D.accepts door.new) (D.dials door.new) (D.asks door.new) ≡ door_calls (D.is_open door.old) (D.ends door.old) (D.accepts door.old) (D.dials door.old) (D.asks door.old) }
-        ensures reading { reading (F.begun files.new) (F.allowance files.new) (F.read_faults files.new) ≡ reading (F.begun files.old) (F.allowance files.old) (F.read_faults files.old) }
-    {
-        match frame {
-            Frame::Vertex(vertex) => self.answer_vertex(door, files, vertex),
-            Frame::Hello(_instance) => Err(SessionEnd::BadFrame(place)),
-            Frame::Have(from) => answer_have(self.alloc, &self.core, door, from),
-            Frame::Want(needs) => answer_want(self.alloc, &self.core, door, needs.as_slice()),
-            Frame::Missing(_need) => Ok(()),
-            Frame::Done => self.answer_done(door),
-        }
     }
 
     /// Answers Done with Done, which ends the session.

@@ -107,8 +107,10 @@ impl Node {
 
         ensures reads { F.read_faults files.new ≡ F.read_faults files.old }
     {
-        put_header(alloc, files, log, &config)?;
-        Ok(new_node(alloc, log, config, keys)?)
+        match append_header(alloc, files, log, NEW_VERSION, &config) {
+            Ok(()) => Ok(new_node(alloc, log, config, keys)?),
+            Err(error) => Err(fault_of_log(error)),
+        }
     }
 }
 
@@ -166,26 +168,6 @@ fn new_lasts(alloc: Global, config: &Config) -> Result<Lasts, OutOfMemory>
     ensures { IfOk result (λ lasts. lasts ≡ no_lasts 2 (length config.now.weights)) }
 {
     Lasts::new(alloc, NEW_VERSION, config.weights.len() as u32)
-}
-
-/// Appends the header of a new log of this name.
-fn put_header<F: Files>(
-    alloc: Global,
-    files: &mut F,
-    log: &str,
-    config: &Config,
-) -> Result<(), StartFault>
-    requires lawful { config_fault config.now ≡ None }
-    ensures error { IfErr result IsUnwritten }
-    ensures log { IsTrue F.tells → Appended (F.held files.old) (F.held files.new) log.now (header_bytes 2 config.now) result }
-    ensures cause { HasAppendedCause (F.append_faults files.old) (F.append_faults files.new) result }
-
-    ensures reads { F.read_faults files.new ≡ F.read_faults files.old }
-{
-    match append_header(alloc, files, log, NEW_VERSION, config) {
-        Ok(()) => Ok(()),
-        Err(error) => Err(fault_of_log(error)),
-    }
 }
 
 /// A copy of a log's name.

@@ -1,4 +1,5 @@
-use Rattle.std.proofs.Common.{refl, sym, subst}
+use Rattle.std.proofs.Common.{Ok, Err, refl, sym, subst}
+use Rattle.std.proofs.lemmas.Result.{err_from_is_err_and}
 use Rattle.hw_types.specs.declared.answers.Frame.{Frame}
 use Rattle.hw_types.specs.declared.answers.Frame.TheVariants as frame
 use Rattle.hw_link.specs.Talk.{Reaction}
@@ -6,16 +7,27 @@ use Rattle.hw_session.specs.declared.stage.Stage.TheVariants as stage
 use Rattle.hw_session.specs.Driving.{Driver, greeting, drive_pulling}
 use Rattle.hw_session.specs.DriveHandling.{ReactsAs}
 use Rattle.hw_session.specs.Standing.{standing, driver_standing}
-use Rattle.hw_session.proofs.DriveLaws.{as_reacts, bad_reacts, pulling_bad, told_node, told_alike}
+use Rattle.hw_session.proofs.DriveLaws.{as_reacts, bad_reacts, pulling_bad, told_node, told_alike, vertex_goes, vertex_ends}
 use Rattle.hw_session.proofs.node.Node.drive_pulling.Goals as goal
 
-pub returns-in-Vertex-clause-reacts : goal.returns-in-Vertex-clause-reacts
-returns-in-Vertex-clause-reacts g c =
-    subst (λ (f : Frame). ReactsAs g.F.Files.tells (standing c.args.self.now (g.F.Files.held c.args.files.now)) f (drive_pulling (record { stage = stage.Pulling c.args.again; node = c.args.self.now; mark = c.args.mark.now }) c.args.again c.args.place f) (driver_standing c.take_vertex.new.self c.args.mark.now (g.F.Files.held c.take_vertex.new.files)) (g.D.Door.sessions c.args.door.now) (g.D.Door.sessions c.args.door.now) c.take_vertex.result)
-    (sym c.in-Vertex.is) (c.take_vertex.ensures.reacts c.args.mark.now (g.D.Door.sessions c.args.door.now))
+pub returns-in_ok-_taken-in-Vertex-clause-reacts : goal.returns-in_ok-_taken-in-Vertex-clause-reacts
+returns-in_ok-_taken-in-Vertex-clause-reacts g c =
+    let AtFrame : Frame → Type 0 = λ f. ReactsAs g.F.Files.tells (standing c.args.self.now (g.F.Files.held c.args.files.now)) f (drive_pulling (record { stage = stage.Pulling c.args.again; node = c.args.self.now; mark = c.args.mark.now }) c.args.again c.args.place f) (driver_standing c.receive.new.self c.args.mark.now (g.F.Files.held c.receive.new.files)) (g.D.Door.sessions c.args.door.now) (g.D.Door.sessions c.args.door.now) (Ok (stage.Pulling c.args.again)) in
+    subst AtFrame (sym c.in-Vertex.is)
+    (vertex_goes (stage.Pulling c.args.again) c.args.self.now c.args.mark.now c.in-Vertex.vertex _ _ _ _ (λ k. tt) c.in_ok-_taken-in-Vertex._taken (g.D.Door.sessions c.args.door.now) c.in_ok-_taken-in-Vertex.ensures.received)
 
-pub returns-in-Vertex-clause-link : goal.returns-in-Vertex-clause-link
-returns-in-Vertex-clause-link g c = c.take_vertex.ensures.link (g.D.Door.faults c.args.door.now)
+pub returns-in_err-_taken-in-Vertex-clause-reacts : goal.returns-in_err-_taken-in-Vertex-clause-reacts
+returns-in_err-_taken-in-Vertex-clause-reacts g c =
+    let p = err_from_is_err_and c.from_residual.result c.from_residual.ensures.1 in
+    let e = c.in_err-_taken-in-Vertex.field-0.0 in
+    let AtFrame : Frame → Type 0 = λ f. ReactsAs g.F.Files.tells (standing c.args.self.now (g.F.Files.held c.args.files.now)) f (drive_pulling (record { stage = stage.Pulling c.args.again; node = c.args.self.now; mark = c.args.mark.now }) c.args.again c.args.place f) (driver_standing c.receive.new.self c.args.mark.now (g.F.Files.held c.receive.new.files)) (g.D.Door.sessions c.args.door.now) (g.D.Door.sessions c.args.door.now) (Err e) in
+    rw (p.1, p.2) (subst AtFrame (sym c.in-Vertex.is)
+    (vertex_ends (stage.Pulling c.args.again) c.args.self.now c.args.mark.now c.in-Vertex.vertex _ _ _ _ (λ k. tt) e (g.D.Door.sessions c.args.door.now) c.in_err-_taken-in-Vertex.ensures.received))
+
+pub returns-in_err-_taken-in-Vertex-clause-link : goal.returns-in_err-_taken-in-Vertex-clause-link
+returns-in_err-_taken-in-Vertex-clause-link g c =
+    let p = err_from_is_err_and c.from_residual.result c.from_residual.ensures.1 in
+    rw (p.1, p.2) (c.in_err-_taken-in-Vertex.ensures.link (g.D.Door.faults c.args.door.now))
 
 pub returns-clause-reacts : goal.returns-clause-reacts
 returns-clause-reacts g c =
