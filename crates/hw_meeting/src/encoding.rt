@@ -47,7 +47,7 @@ fn put_meeting(
         }
         MeetingFrame::Summary(parts) => {
             out.push(3)?;
-            put_parts(parts.as_slice(), out)
+            put_parts(validators, parts.as_slice(), out)
         }
         MeetingFrame::Torn(numbers) => {
             out.push(4)?;
