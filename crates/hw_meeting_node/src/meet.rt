@@ -132,25 +132,12 @@ fn say_first<D: Door>(
     ensures rest { OnlySends D.Door door.old door.new }
 {
     let meeter = begin(alloc, core)?;
-    first_word(alloc, core, door, side)?;
-    Ok(meeter)
-}
-
-/// What is said before anything is read: by the caller Hello.
-fn first_word<D: Door>(
-    alloc: Global,
-    core: &Core,
-    door: &mut D,
-    side: Side,
-) -> Result<(), SessionEnd>
-    requires open { D.is_open door.old ≡ true }
-    ensures sent { Sends (sent_bytes (first_word side core.now)) (D.sessions door.old) (D.sessions door.new) result }
-    ensures cause { IsLinkCounted (D.faults door.old) (D.faults door.new) result }
-    ensures rest { OnlySends D.Door door.old door.new }
-{
     match side {
-        Side::Caller => say_hello(alloc, core, door),
-        Side::Host => Ok(()),
+        Side::Caller => {
+            say_hello(alloc, core, door)?;
+            Ok(meeter)
+        }
+        Side::Host => Ok(meeter),
     }
 }
 

@@ -74,27 +74,10 @@ pub(crate) fn say_due<D: Door>(
     ensures cause { IsLinkCounted (D.faults door.old) (D.faults door.new) result }
     ensures rest { OnlySends D.Door door.old door.new }
 {
-    send_vertices(alloc, core, door, places)?;
-    send(alloc, core, door, &MeetingFrame::Done)
-}
-
-/// Sends the vertices at these places of the journal.
-fn send_vertices<D: Door>(
-    alloc: Global,
-    core: &Core,
-    door: &mut D,
-    places: &[u64],
-) -> Result<(), SessionEnd>
-    requires within { All (λ place. place < length core.now.journal) places.now }
-    requires open { D.is_open door.old ≡ true }
-    ensures sent { Sends (sent_bytes (map frame.Vertex (filter_map (slice_get core.now.journal) places.now))) (D.sessions door.old) (D.sessions door.new) result }
-    ensures cause { IsLinkCounted (D.faults door.old) (D.faults door.new) result }
-    ensures rest { OnlySends D.Door door.old door.new }
-{
     for place in places {
         send_vertex(alloc, core, door, core.journal_at(*place))?;
     }
-    Ok(())
+    send(alloc, core, door, &MeetingFrame::Done)
 }
 
 /// Sends a vertex.
