@@ -10,9 +10,10 @@ use hw_codec::{Field, encode_vertex, put_list};
 use hw_types::{Bytes, OutOfMemory, Vertex};
 use std::alloc::Global;
 
-/// The one spelling of a frame, without its length, where there are this many validators. Units in it keep
-/// the limits of their format, a summary has one part for each validator, and torn are validators in
-/// rising order.
+/// The one spelling of a frame, without its length, where there are this many validators.
+///
+/// Units in it keep the limits of their format. A summary has one part for each validator. The torn ones are
+/// validators in rising order.
 pub fn encode_meeting(
     alloc: Global,
     validators: u32,

@@ -26,7 +26,7 @@ pub(crate) fn say_hello<D: Door>(alloc: Global, core: &Core, door: &mut D) -> Re
     send(alloc, core, door, &MeetingFrame::Hello(*core.instance()))
 }
 
-/// Tells what the node has of each validator.
+/// Says what the node has of each validator.
 pub(crate) fn say_summary<D: Door>(
     alloc: Global,
     core: &Core,
@@ -43,7 +43,7 @@ pub(crate) fn say_summary<D: Door>(
     send(alloc, core, door, &MeetingFrame::Summary(parts))
 }
 
-/// Tells which validators are torn for the node, by what the other tells.
+/// Says which validators are torn for the node, by the other's summary.
 pub(crate) fn say_torn<D: Door>(
     alloc: Global,
     core: &Core,
@@ -97,7 +97,7 @@ fn send_vertex<D: Door>(
     send(alloc, core, door, &MeetingFrame::Vertex(copy))
 }
 
-/// Sends a frame, which is one among the node's validators.
+/// Sends a frame, which fits the number of the node's validators.
 fn send<D: Door>(
     alloc: Global,
     core: &Core,
