@@ -1,6 +1,6 @@
 //! What a node says at a meeting.
 
-ghost use Rattle.std.specs.Prelude.{◌≡◌, ◌<◌, [], ◌∷◌, true, length, map, filter_map, slice_get, All};
+ghost use Rattle.std.specs.Prelude.{◌≡◌, ◌<◌, [], ◌∷◌, true, length, filter_map, slice_get, All};
 ghost use Rattle.hw_types.specs.Spelling.{VertexFits};
 ghost use Rattle.hw_link.specs.{Links.{IsLinkCounted}, Sent.{Sends, OnlySends}};
 ghost use Rattle.hw_meeting.specs.Frames.{IsSaid};
