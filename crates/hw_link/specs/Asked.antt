@@ -14,7 +14,8 @@ pub record IsAskedWithin (n : ℕ) (now : Option (List Session)) (ask : Ask) : T
   pub few : length part < n
   pub asked : IsAskedNow (after_part part [] false now) ask
 
--- When it was made, these bytes of a frame and a part behind them had been read, in which no frame is yet, and nothing more was said than by now.
+-- When it was made, these bytes of a frame and a part after them had been read, in which no frame is yet. Nothing more
+-- was said than by now.
 pub record IsAskedInside {F : Type 0} (here : Rest → Result (PlacedOf F × Rest) SessionEnd) (place : ℕ) (before : List ℕ) (now : Option (List Session)) (ask : Ask) : Type 0 where
   pub part : List ℕ
   pub within : place + length (before ++ part) ≤ byte_limit

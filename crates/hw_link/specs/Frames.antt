@@ -13,11 +13,11 @@ use Rattle.hw_link.specs.declared.end.SessionEnd.TheVariants.{EndOfInput, BadFra
 
 -- ---- what is sent
 
--- bytes behind their length
+-- bytes after their length
 abbrev pub behind_length : List ℕ → List ℕ
 behind_length bytes = u32_bytes (length bytes) ++ bytes
 
--- a frame behind its length
+-- a frame after its length
 abbrev pub framed : Frame → List ℕ
 framed f = behind_length (frame_bytes f)
 
@@ -42,7 +42,7 @@ pub record PlacedOf (F : Type 0) : Type 0 where
 abbrev pub Placed : Type 0
 Placed = PlacedOf Frame
 
--- so many bytes are read of a peer in one session
+-- at most this many bytes are read of a peer in one session
 abbrev pub byte_limit : ℕ
 byte_limit = 268435456
 
@@ -53,7 +53,7 @@ cut_end r =
     else if length r.bytes == 0 then EndOfInput
     else BadFrame r.place
 
--- so many bytes from a place of the session on
+-- these bytes, from a place of the session on
 abbrev pub rest_at : ℕ → List ℕ → Rest
 rest_at place bytes = record { place = place; bytes = bytes }
 
@@ -70,7 +70,8 @@ abbrev pub decoded : {F : Type 0} → Rest → Result F CodecError → Result F 
 decoded r (Ok f) = Ok f
 decoded r (Err e) = Err (BadFrame r.place)
 
--- the frame that begins here, which the bytes behind its length spell in this way, and what is left behind it, or how the session ends
+-- The frame that begins here, and what is left after it, or how the session ends. The bytes after the frame's length
+-- spell it in this way.
 unfoldable pub frame_by : {F : Type 0} → (List ℕ → Result F CodecError) → Rest → Result (PlacedOf F × Rest) SessionEnd
 frame_by spelled r = do
   front ← front_of 4 r
@@ -84,11 +85,11 @@ unfoldable pub frame_here : Rest → Result (Placed × Rest) SessionEnd
 unfolding frame_by
 frame_here r = frame_by frame_of r
 
--- the bytes behind the length of the frame that begins here, whatever they spell
+-- the bytes after the length of the frame that begins here, whatever they spell
 abbrev pub body_here : Rest → Result (PlacedOf (List ℕ) × Rest) SessionEnd
 body_here r = frame_by Ok r
 
--- frames of some kind, and how the session ends behind them
+-- frames of some kind, and how the session ends after them
 pub record FramesOf (F : Type 0) : Type 0 where
   pub given : List (PlacedOf F)
   pub end : SessionEnd
@@ -102,12 +103,12 @@ abbrev pub with_next : {F : Type 0} → Result (PlacedOf F × Rest) SessionEnd �
 with_next (Ok (f, r)) others = record { given = f ∷ (others r).given; end = (others r).end }
 with_next (Err e) others = record { given = []; end = e }
 
--- the frames from here on, each read in this way, in at most so many steps
+-- the frames from here on, each read in this way, in at most this many steps
 unfoldable pub frames_by : {F : Type 0} → (Rest → Result (PlacedOf F × Rest) SessionEnd) → ℕ → Rest → FramesOf F
 frames_by here zero r = record { given = []; end = cut_end r }
 frames_by here (suc steps) r = with_next (here r) (frames_by here steps)
 
--- the frames from here on, in at most so many steps
+-- the frames from here on, in at most this many steps
 unfoldable pub frames_in : ℕ → Rest → Frames
 unfolding frames_by
 frames_in steps r = frames_by frame_here steps r

@@ -23,15 +23,16 @@ SaysBy here Whole place part (Err LinkFault) = EndsBy here place part (cut_end (
 SaysBy here Whole place part (Err OutOfMemory) = Unit {0}
 SaysBy here Whole place part (Err e) = EndsBy here place part e
 
--- The number of ends rose where the peer's bytes ended. A bad frame that is none whatever comes behind it needs no end.
+-- The number of ends rose where the peer's bytes ended. A bad frame that is none, whatever comes after it, needs no
+-- end.
 abbrev pub IsEndCountedBy : {F T : Type 0} → (Rest → Result (PlacedOf F × Rest) SessionEnd) → ℕ → ℕ → ℕ → List ℕ → Result T SessionEnd → Type 0
 IsEndCountedBy here before now place part (Ok x) = now ≡ before
 IsEndCountedBy here before now place part (Err EndOfInput) = now ≡ raised before
 IsEndCountedBy here before now place part (Err (BadFrame at)) = (now ≡ raised before) ⊎ IsRefusedBy here place part (BadFrame at)
 IsEndCountedBy here before now place part (Err e) = Unit {0}
 
--- A call read a part behind these bytes, which were read before; what both say of a frame that is read in this way; and what it changed at the
--- door.
+-- A call read a part after these bytes, which were read before. It has what both say of a frame that is read in this
+-- way, and what the call changed at the door.
 pub record HearsBy {F T : Type 0} (here : Rest → Result (PlacedOf F × Rest) SessionEnd) (Whole : ℕ → List ℕ → T → Type 0) (place : ℕ) (before : List ℕ) (old new : Option (List Session)) (ends_old ends_new : ℕ) (result : Result T SessionEnd) : Type 0 where
   pub part : List ℕ
   pub within : place + length (before ++ part) ≤ byte_limit
@@ -51,13 +52,13 @@ IsEndCounted before now place part result = IsEndCountedBy frame_here before now
 abbrev pub Hears : {T : Type 0} → (ℕ → List ℕ → T → Type 0) → ℕ → List ℕ → Option (List Session) → Option (List Session) → ℕ → ℕ → Result T SessionEnd → Type 0
 Hears Whole place before old new ends_old ends_new result = HearsBy frame_here Whole place before old new ends_old ends_new result
 
--- a frame, and the place behind it
+-- a frame, and the place after it
 abbrev pub IsHeard : ℕ → List ℕ → Heard → Type 0
 IsHeard place part h = HasFrame place part h.frame × (h.next ≡ place + length part)
 
 -- ---- parts of a frame
 
--- four bytes that tell a length which a frame may have
+-- four bytes that spell a length which a frame may have
 pub record IsLength (front : List ℕ) : Type 0 where
   pub four : length front ≡ 4
   pub within : IsTrue (is_within 1 most_bytes (from_be_bytes w32 front))
@@ -70,13 +71,13 @@ IsFrontOf place part front = (part ≡ front) × IsLength front
 abbrev pub IsFront : ℕ → List ℕ → Result (List ℕ) SessionEnd → Type 0
 IsFront place front result = MatchResult result (λ x. (x ≡ front) × IsLength front) (λ e. (e ≡ BadFrame place) × (is_within 1 most_bytes (from_be_bytes w32 front) ≡ false))
 
--- these bytes are a length and the bytes behind it
+-- these bytes are a length and the bytes after it
 pub record IsBody (place : ℕ) (part body : List ℕ) : Type 0 where
   pub front : List ℕ
   pub split : part ≡ front ++ body
   pub is_length : IsLength front
   pub size : length body ≡ from_be_bytes w32 front
 
--- the bytes behind a length are this frame, or none
+-- the bytes after a length are this frame, or none
 abbrev pub IsDecoded : ℕ → List ℕ → Result Heard SessionEnd → Type 0
 IsDecoded place body result = MatchResult result (λ h. (frame_of body ≡ Ok h.frame) × (h.next ≡ place + (4 + length body))) (λ e. (e ≡ OutOfMemory) ⊎ ((e ≡ BadFrame place) × (c : CodecError) × (frame_of body ≡ Err c)))

@@ -13,7 +13,7 @@ use Rattle.hw_link.specs.declared.end.SessionEnd.TheVariants.{LinkFault, OutOfMe
 abbrev pub gone_on : List ℕ → List ℕ → Bool → Session → Session
 gone_on read written failed s = record s { read = s.read ++ read; written = s.written ++ written; failed = failed || s.failed }
 
--- what a door tells whose last session went on so
+-- what a door reports whose last session went on so
 abbrev pub after_part : List ℕ → List ℕ → Bool → Option (List Session) → Option (List Session)
 after_part read written failed sessions = option_map (with_last (gone_on read written failed)) sessions
 

@@ -9,7 +9,7 @@ use Rattle.hw_link.specs.declared.end.SessionEnd.TheVariants.{LinkFault, OutOfMe
 use Rattle.hw_link.specs.Talk.{IsPrefixOf}
 use Rattle.hw_link.specs.Links.{after_part, is_link_fault, has_failed}
 
--- the link failed, or there was no memory
+-- the link failed, or it was out of memory
 abbrev pub IsOfLink : SessionEnd → Type 0
 IsOfLink LinkFault = Unit {0}
 IsOfLink OutOfMemory = Unit {0}
@@ -30,7 +30,7 @@ pub record SendsPart {T : Type 0} (bytes : List ℕ) (old new : Option (List Ses
   pub whole : OnOk result (part ≡ bytes)
   pub told : new ≡ after_part [] part (has_failed result) old
 
--- a call that sends in the session that is there: it stays there, and nothing else that the door tells changes
+-- a call that sends in the session that is there: it stays there, and nothing else that the door reports changes
 pub record OnlySends {D : Type 0} (tells : Door D) (old new : D) : Type 0 where
   pub there : tells.is_open new ≡ true
   pub asks : tells.asks new ≡ tells.asks old

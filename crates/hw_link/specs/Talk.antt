@@ -7,7 +7,7 @@ use Rattle.hw_link.specs.declared.end.SessionEnd.{SessionEnd}
 use Rattle.hw_link.specs.declared.end.SessionEnd.TheVariants.{ByteLimit, LinkFault, AppendFault, OutOfMemory}
 use Rattle.hw_link.specs.Frames.{Placed, Frames, sent_bytes}
 
--- what a node does at a frame: where it stands then, what it says, and how the session ends, if it does
+-- what a node does at a frame: its state after it, what it says, and how the session ends, if it does
 pub record Reaction (S : Type 0) : Type 0 where
   pub state : S
   pub says : List Frame
@@ -21,7 +21,7 @@ goes_on state says = record { state = state; says = says; end = None }
 abbrev pub ends : {S : Type 0} → S → List Frame → SessionEnd → Reaction S
 ends state says end = record { state = state; says = says; end = Some end }
 
--- what came of a session: where the node stands, what it said to each frame, and how it ended
+-- what came of a session: the node's state, what it said to each frame, and how it ended
 pub record Talk (S : Type 0) : Type 0 where
   pub state : S
   pub said : List (List Frame)
@@ -34,7 +34,7 @@ with_reaction first others = elim first.end [
   | None ↦ record { state = (others first.state).state; said = first.says ∷ (others first.state).said; end = (others first.state).end }
 ]
 
--- frame by frame, up to the end that a frame brings or the one behind all frames
+-- frame by frame, up to the end that a frame brings or the one after all frames
 unfoldable pub talk : {S : Type 0} → (S → Placed → Reaction S) → SessionEnd → S → List Placed → Talk S
 talk step end state [] = record { state = state; said = []; end = end }
 talk step end state (f ∷ fs) = with_reaction (step state f) (λ next. talk step end next fs)
@@ -57,8 +57,9 @@ IsPrefixOf bytes all = (n : ℕ) × (bytes ≡ take n all)
 abbrev pub before_last : List (List Frame) → List (List Frame)
 before_last said = take (length said - 1) said
 
--- The bytes written in a session that ended so: all that was said. Where an append failed, the last frame has no answer. After a fault of
--- the link or want of memory they are a prefix of what was said, and at the byte limit the answer to the last frame may be cut.
+-- The bytes written in a session that ended so: all that was said. Where an append failed, the last frame has no
+-- answer. After a fault of the link, or out of memory, they are a prefix of what was said. At the byte limit the answer
+-- to the last frame may be cut.
 abbrev pub IsWritten : SessionEnd → List (List Frame) → List ℕ → Type 0
 IsWritten LinkFault said bytes = IsPrefixOf bytes (said_bytes said)
 IsWritten AppendFault said bytes = bytes ≡ said_bytes (before_last said)

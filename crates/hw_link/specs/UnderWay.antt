@@ -9,7 +9,7 @@ use Rattle.hw_link.specs.Talk.{Reaction, Talk, talk, talk_over}
 
 -- ---- one frame
 
--- these bytes are a frame at this place, of the kind that is read in this way, whatever comes behind them
+-- these bytes are a frame at this place, of the kind that is read in this way, whatever comes after them
 abbrev pub HasBy : {F : Type 0} → (Rest → Result (PlacedOf F × Rest) SessionEnd) → ℕ → List ℕ → F → Type 0
 HasBy here place part f = (more : List ℕ) → here (rest_at place (part ++ more)) ≡ Ok (record { at = place; frame = f }, rest_at (place + length part) more)
 
@@ -17,11 +17,11 @@ HasBy here place part f = (more : List ℕ) → here (rest_at place (part ++ mor
 abbrev pub EndsBy : {F : Type 0} → (Rest → Result (PlacedOf F × Rest) SessionEnd) → ℕ → List ℕ → SessionEnd → Type 0
 EndsBy here place part e = here (rest_at place part) ≡ Err e
 
--- whatever comes behind these bytes, there is no such frame in them, and the session ends so
+-- whatever comes after these bytes, there is no such frame in them, and the session ends so
 abbrev pub IsRefusedBy : {F : Type 0} → (Rest → Result (PlacedOf F × Rest) SessionEnd) → ℕ → List ℕ → SessionEnd → Type 0
 IsRefusedBy here place part e = (more : List ℕ) → here (rest_at place (part ++ more)) ≡ Err e
 
--- these bytes are this frame of a session, whatever comes behind them
+-- these bytes are this frame of a session, whatever comes after them
 abbrev pub HasFrame : ℕ → List ℕ → Frame → Type 0
 HasFrame place part f = HasBy frame_here place part f
 
@@ -29,7 +29,7 @@ HasFrame place part f = HasBy frame_here place part f
 abbrev pub EndsIn : ℕ → List ℕ → SessionEnd → Type 0
 EndsIn place part e = EndsBy frame_here place part e
 
--- the same, whatever comes behind them
+-- the same, whatever comes after them
 abbrev pub IsRefused : ℕ → List ℕ → SessionEnd → Type 0
 IsRefused place part e = IsRefusedBy frame_here place part e
 
@@ -39,7 +39,7 @@ IsRefused place part e = IsRefusedBy frame_here place part e
 abbrev pub talk_from : {S : Type 0} → (S → Placed → Reaction S) → S → Rest → Talk S
 talk_from step state r = talk step (frames_from r).end state (frames_from r).given
 
--- a talk behind what was said before it
+-- a talk after what was said before it
 abbrev pub behind_said : {S : Type 0} → List (List Frame) → Talk S → Talk S
 behind_said said t = record t { said = said ++ t.said }
 
@@ -51,12 +51,12 @@ pub record UnderWay {S : Type 0} (step : S → Placed → Reaction S) (whole : T
 abbrev pub IsOver : {S : Type 0} → Talk S → List (List Frame) → S → SessionEnd → Type 0
 IsOver whole said state e = whole ≡ record { state = state; said = said; end = e }
 
--- Whatever comes behind the bytes that were read of the peer, the session has said this by then, and the node stands here.
+-- Whatever comes after the bytes that were read, the session has said this by then, and the node is in this state.
 abbrev pub HasHeard : {S : Type 0} → List Frame → (S → Placed → Reaction S) → S → List ℕ → List (List Frame) → S → Type 0
 HasHeard first step start read said state =
     (more : List ℕ) → length (read ++ more) ≤ byte_limit → UnderWay step (talk_over first step start (frames_of (read ++ more))) said state (rest_at (length read) more)
 
--- the frame that was read behind these bytes
+-- the frame that was read after these bytes
 abbrev pub placed_behind : List ℕ → Frame → Placed
 placed_behind read f = record { at = length read; frame = f }
 
@@ -72,7 +72,7 @@ FrameLeadsOn S = (step : S → Placed → Reaction S) (first : List Frame) (star
     → HasHeard first step start read said state → HasFrame (length read) part f → (step state (placed_behind read f)).end ≡ None
     → HasHeard first step start (read ++ part) (said ++ (step state (placed_behind read f)).says ∷ []) (step state (placed_behind read f)).state
 
--- A frame that brings an end is the last one, whatever comes behind it.
+-- A frame that brings an end is the last one, whatever comes after it.
 abbrev pub FrameEnds : Type 0 → Type 0
 FrameEnds S = (step : S → Placed → Reaction S) (first : List Frame) (start : S) (read : List ℕ) (said : List (List Frame)) (state : S) (part : List ℕ) (f : Frame) (e : SessionEnd)
     → HasHeard first step start read said state → HasFrame (length read) part f → (step state (placed_behind read f)).end ≡ Some e

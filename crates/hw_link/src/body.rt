@@ -10,13 +10,14 @@ use hw_io::Door;
 use hw_types::{Bytes, MAX_LENGTH};
 use std::alloc::Global;
 
-/// How many bytes tell the length of a frame.
+/// How many bytes the length of a frame has.
 pub const FRONT: usize = 4;
 
-/// Reads the frame that begins at this place of the session, and no byte past it: the bytes behind its length.
+/// Reads the frame that begins at this place of the session, and no byte past it. Its answer is the bytes after
+/// the frame's length.
 ///
-/// Its errors are those of a frame that isn't there: the peer's bytes end, or their length is none, or the byte
-/// limit comes; or a failed call of the door, or want of memory. It asks for no more memory than the
+/// It fails where no frame is there: the peer's bytes end, their length is out of range, or the byte limit comes.
+/// It also fails by a failed call of the door, and where it is out of memory. It asks for no more memory than the
 /// frame's length, which is at most 1,048,576 bytes.
 pub fn read_body<D: Door>(alloc: Global, door: &mut D, place: u64) -> Result<Bytes, SessionEnd>
     requires place { place ≤ BYTE_LIMIT }
@@ -78,7 +79,7 @@ fn checked_front(place: u64, front: [u8; 4]) -> Result<[u8; 4], SessionEnd>
     }
 }
 
-/// Reads the bytes behind this length, of the frame that begins at this place.
+/// Reads the bytes after this length, of the frame that begins at this place.
 fn read_behind<D: Door>(
     alloc: Global,
     door: &mut D,

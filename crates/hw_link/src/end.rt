@@ -14,7 +14,7 @@ pub const BYTE_LIMIT: u64 = 268_435_456;
 /// How a session ends.
 #[derive(Clone, Copy, Debug, PartialEq, Eq)]
 pub enum SessionEnd {
-    /// Both sides said so.
+    /// Both sides said Done.
     Done,
     /// The peer's bytes end at a frame's end.
     EndOfInput,
@@ -30,7 +30,7 @@ pub enum SessionEnd {
     ByteLimit,
     /// Two different units have one digest.
     Clash,
-    /// There was no memory.
+    /// It was out of memory.
     OutOfMemory,
 }
 
@@ -61,7 +61,7 @@ impl From<IoFault> for SessionEnd {
     }
 }
 
-/// How a session ends whose bytes end so many bytes behind the place where a frame begins.
+/// How a session ends whose bytes end this many bytes after the place where a frame begins.
 pub(crate) fn cut_end(place: u64, count: usize) -> SessionEnd
     requires { place + count < 2 ^ 64 }
     ensures { (part : List ℕ) → length part ≡ count → result ≡ cut_end (rest_at place part) }

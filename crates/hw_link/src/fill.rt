@@ -1,4 +1,4 @@
-//! Reading so many bytes of a link.
+//! Reading a given number of bytes of a link.
 
 ghost use Rattle.std.specs.Prelude.{◌≡◌, ◌<◌, ◌≤◌, [], true, length, take, OnOk, OnErr};
 ghost use Rattle.hw_io.specs.{Doors.{AsksMore}, Faults.{HasCause, raised}};

@@ -1,7 +1,7 @@
 //! Frames over a link.
 //!
 //! A peer's bytes are read frame by frame, and no byte past the frame that is being read. What a node does
-//! at each frame is a reaction, and a session is the talk that these reactions make; `specs/` says how far
+//! at each frame is a reaction, and a session is the talk that these reactions make. `specs/` says how far
 //! a talk is by the bytes that were read so far, however the reads are cut.
 #![tactic(auto)]
 

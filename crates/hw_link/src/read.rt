@@ -12,7 +12,7 @@ use hw_io::Door;
 use hw_types::{CodecError, Frame};
 use std::alloc::Global;
 
-/// A frame that was read, and the place in the session behind it.
+/// A frame that was read, and the place in the session after it.
 #[derive(Drop)]
 pub struct Heard {
     pub frame: Frame,
@@ -21,9 +21,9 @@ pub struct Heard {
 
 /// Reads the frame that begins at this place of the session, and no byte past it.
 ///
-/// Its errors are those of a frame that isn't there: the peer's bytes end or are no frame, or the byte
-/// limit comes; or a failed call of the door, or want of memory. It asks for no more memory than the
-/// frame's length, which is at most 1,048,576 bytes, and for what decoding takes.
+/// It fails where no frame is there: the peer's bytes end or are no frame, or the byte limit comes. It also fails
+/// by a failed call of the door, and where it is out of memory. It asks for no more memory than the frame's
+/// length, which is at most 1,048,576 bytes, and what decoding takes.
 pub fn read_frame<D: Door>(alloc: Global, door: &mut D, place: u64) -> Result<Heard, SessionEnd>
     requires place { place ≤ BYTE_LIMIT }
     requires open { D.is_open door.old ≡ true }
@@ -41,7 +41,7 @@ pub fn read_frame<D: Door>(alloc: Global, door: &mut D, place: u64) -> Result<He
     decoded(alloc, place, body.as_slice())
 }
 
-/// The frame that begins at this place and has these bytes behind its length.
+/// The frame that begins at this place and has these bytes after its length.
 fn decoded(alloc: Global, place: u64, body: &[u8]) -> Result<Heard, SessionEnd>
     requires { place + 4 + length body.now ≤ BYTE_LIMIT }
     ensures said { IsDecoded place body.now result }

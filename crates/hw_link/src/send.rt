@@ -11,7 +11,7 @@ use hw_io::{Door, IoFault};
 use hw_types::{Bytes, Frame, OutOfMemory};
 use std::alloc::Global;
 
-/// Sends a frame behind its length. After an error a first part of it was sent.
+/// Sends a frame after its length. On an error a first part of the two was sent.
 #[tactic(auto, using(crate::proofs::LengthLaws::frame_short))]
 pub fn send_frame<D: Door>(alloc: Global, door: &mut D, frame: &Frame) -> Result<(), SessionEnd>
     requires fits { FrameFits frame.now }
@@ -31,8 +31,8 @@ pub fn send_frame<D: Door>(alloc: Global, door: &mut D, frame: &Frame) -> Result
     send_body(alloc, door, body.as_slice())
 }
 
-/// Sends a frame of these bytes, of which there are less than 2^32, behind its length. After an error a first
-/// part of it was sent.
+/// Sends a frame of these bytes after its length. There are fewer than 2^32 of them. On an error a first part of
+/// the two was sent.
 pub fn send_body<D: Door>(alloc: Global, door: &mut D, body: &[u8]) -> Result<(), SessionEnd>
     requires short { length body.now < 2 ^ 32 }
     requires open { D.is_open door.old ≡ true }
@@ -45,7 +45,7 @@ pub fn send_body<D: Door>(alloc: Global, door: &mut D, body: &[u8]) -> Result<()
     Ok(())
 }
 
-/// Bytes behind their length.
+/// The bytes after their length.
 fn behind_length(alloc: Global, body: &[u8]) -> Result<Bytes, OutOfMemory>
     requires { length body.now < 2 ^ 32 }
     ensures { IfOk result (λ bytes. bytes ≡ behind_length body.now) }
@@ -57,7 +57,7 @@ fn behind_length(alloc: Global, body: &[u8]) -> Result<Bytes, OutOfMemory>
     Ok(bytes)
 }
 
-/// Sends all of the bytes, piece by piece. After an error a first part of them was sent.
+/// Sends all of the bytes, piece by piece. On an error a first part of them was sent.
 fn send_all<D: Door>(door: &mut D, bytes: &[u8]) -> Result<(), IoFault>
     requires open { D.is_open door.old ≡ true }
     ensures sent { SendsPart bytes.now (D.sessions door.old) (D.sessions door.new) result }

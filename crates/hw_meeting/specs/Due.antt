@@ -8,7 +8,7 @@ use Rattle.hw_agree.specs.Converge.{part}
 use Rattle.hw_meeting.specs.declared.due.Owed.{Owed}
 use Rattle.hw_meeting.specs.declared.due.Owed.TheVariants as owed
 
--- by whether the validator is torn, and what the two sides tell of it: all, those from a number on, or none
+-- by whether the validator is torn, and what the two sides say of it: all, those from a number on, or none
 abbrev pub owed_by : Bool → LaneSummary → LaneSummary → Owed
 owed_by true mine theirs = owed.All
 owed_by false mine Nothing = owed.All

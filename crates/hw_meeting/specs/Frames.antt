@@ -31,9 +31,9 @@ meeting_bytes (Summary parts) = 3 ∷ counted part_bytes parts
 meeting_bytes (Torn numbers) = 4 ∷ counted u32_bytes numbers
 meeting_bytes Done = 5 ∷ []
 
--- ---- which frames there are where there are so many validators
+-- ---- which frames there are where there are this many validators
 
--- a line has some units
+-- a line has at least one unit
 abbrev pub HasUnits : LaneSummary → Type 0
 HasUnits Nothing = Unit {0}
 HasUnits (Line count tip) = 0 < count
@@ -56,7 +56,7 @@ IsSaid validators (Summary parts) = (length parts ≡ validators) × All HasUnit
 IsSaid validators (Torn numbers) = are_validators validators numbers ≡ true
 IsSaid validators Done = Unit {0}
 
--- the bytes spell the frame, where there are so many validators
+-- the bytes spell the frame, where there are this many validators
 abbrev pub SpellsMeeting : ℕ → List ℕ → MeetingFrame → Type 0
 SpellsMeeting validators = IsSpelling (IsSaid validators) meeting_bytes
 
@@ -82,7 +82,7 @@ MeetingInRange Done = Unit {0}
 abbrev pub unit_count_at : Rest → Read ℕ
 unit_count_at r = number_at w64 r >>= λ n. if n.0 == 0 then Err (error.OutOfRange r.place) else Ok n
 
--- what stands behind the tag of a part
+-- what comes after the tag of a part
 abbrev pub part_behind : ℕ → ℕ → Rest → Read LaneSummary
 part_behind place zero r = Ok (Nothing, r)
 part_behind place (suc zero) r = do
@@ -92,11 +92,11 @@ part_behind place (suc zero) r = do
 part_behind place (suc (suc zero)) r = Ok (Tangled, r)
 part_behind place (suc (suc (suc tag))) r = Err (error.BadTag place)
 
--- what is told of a validator
+-- what a summary says of a validator
 unfoldable pub part_at : Rest → Read LaneSummary
 part_at r = number_at w8 r >>= λ tag. part_behind r.place tag.0 tag.1
 
--- what is told of each validator
+-- what a summary says of each validator
 unfoldable pub summary_at : ℕ → Rest → Read (List LaneSummary)
 summary_at validators r = counted_at part_at validators r >>= λ parts. if length parts.0 == validators then Ok parts else Err (error.OutOfRange r.place)
 
@@ -104,7 +104,7 @@ summary_at validators r = counted_at part_at validators r >>= λ parts. if lengt
 unfoldable pub torn_at : ℕ → Rest → Read (List ℕ)
 torn_at validators r = counted_at (number_at w32) validators r >>= λ numbers. if are_validators validators numbers.0 then Ok numbers else Err (error.OutOfRange r.place)
 
--- what stands behind the kind of a frame
+-- what comes after the kind of a frame
 abbrev pub meeting_behind : ℕ → ℕ → List ℕ → Result MeetingFrame CodecError
 meeting_behind validators (suc zero) body = whole digest_at body >>= λ d. Ok (Hello d)
 meeting_behind validators (suc (suc zero)) body = vertex_of body >>= λ v. Ok (Vertex v)
@@ -119,7 +119,7 @@ unfoldable pub meeting_of : ℕ → List ℕ → Result MeetingFrame CodecError
 meeting_of validators [] = Err (error.Truncated 0)
 meeting_of validators (kind ∷ body) = meeting_behind validators kind body
 
--- why bytes are no frame: their form, or want of memory
+-- why bytes are no frame: their form, or out of memory
 abbrev pub fault_of : CodecError → FrameError
 fault_of error.OutOfMemory = OutOfMemory
 fault_of (error.Truncated at) = Form

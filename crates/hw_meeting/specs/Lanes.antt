@@ -1,4 +1,4 @@
--- What a node's graph and its journal have of each validator, as tables tell it.
+-- What a node's graph and its journal have of each validator, as tables have it.
 -- Source: ours.
 use Rattle.std.specs.Prelude.{◌≡◌, ℕ, ◌+◌, ◌<◌, ◌≤◌, Bool, true, false, List, length, Option, Some, None, slice_index_or}
 use Rattle.hw_types.specs.declared.unit.Digest.{Digest}
@@ -83,9 +83,9 @@ pub record AreMarks (dag : UnitGraph) (tips : List (Option UnitNo)) (units : Lis
   pub size : length marks ≡ dag.validators
   pub each : (v : ℕ) → v < dag.validators → IsMark (IsOnTip dag (tip_at tips v)) v units (mark_at marks v)
 
--- ---- what is told
+-- ---- what a summary says
 
--- what an entry and its mark tell
+-- what an entry and its mark say
 abbrev pub lane_summary : UnitGraph → Option UnitNo → Mark → LaneSummary
 lane_summary dag tip mark.Unseen = Nothing
 lane_summary dag (Some tip) mark.Whole = Line (seq_of (unit_at dag tip.0) + 1) (unit_at dag tip.0).digest

@@ -17,7 +17,7 @@ use Rattle.hw_meeting.specs.Due.{AreOwed}
 
 -- ---- frames
 
--- a digest that tells a number
+-- a digest that spells a number
 abbrev pub digest : ℕ → Digest
 digest n = record { 0 = replicate 32 n }
 
@@ -64,7 +64,8 @@ ThatAUnitBreaksIt = IsMark (λ (u : WireUnit). ⊥) 0 (node_at one_block 0 ∷ [
 
 -- ---- what is owed
 
--- Of a line of three against a line of one on it, those from number 1 on are owed, and all where the validator is torn.
+-- Of a line of three against a line of one on it, the units from number 1 on are owed. Where the validator is torn, all
+-- are.
 pub record ThatALineIsOwed : Type 0 where
   pub ahead : AreOwed [] (Line 3 (digest 3) ∷ []) (Line 1 (digest 1) ∷ []) (owed.From 1 ∷ [])
   pub torn : AreOwed (0 ∷ []) (Line 3 (digest 3) ∷ []) (Line 1 (digest 1) ∷ []) (owed.All ∷ [])

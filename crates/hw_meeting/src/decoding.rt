@@ -15,8 +15,8 @@ use std::alloc::Global;
 /// The frame that the bytes spell, all of them, where there are this many validators: the kind, and what
 /// comes after it.
 ///
-/// `Form` answers that they spell none. A summary has one part for each validator, and a line in it at
-/// least one unit; torn are validators, in rising order.
+/// Its error is `Form` where they spell none. A summary has one part for each validator, and a line in it has at
+/// least one unit. The torn ones are validators in rising order.
 pub fn decode_meeting(
     alloc: Global,
     validators: u32,

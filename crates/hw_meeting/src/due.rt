@@ -64,7 +64,7 @@ fn owed_table(
     Ok(table)
 }
 
-/// Whether the vertex is owed. Of a creator past the table's end it is worked out.
+/// Whether the vertex is owed. For a creator past the table's end the answer is worked out anew.
 #[tactic(auto, using(crate::proofs::DueLaws::owed_says))]
 fn is_due(
     table: &[Owed],

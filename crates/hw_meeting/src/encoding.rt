@@ -10,9 +10,10 @@ use hw_codec::{Field, encode_vertex, put_list};
 use hw_types::{Bytes, OutOfMemory, Vertex};
 use std::alloc::Global;
 
-/// The one spelling of a frame, without its length, where there are this many validators. Units in it keep
-/// the limits of their format, a summary has one part for each validator, and torn are validators in
-/// rising order.
+/// The one spelling of a frame, without its length, where there are this many validators.
+///
+/// Units in it keep the limits of their format. A summary has one part for each validator. The torn ones are
+/// validators in rising order.
 pub fn encode_meeting(
     alloc: Global,
     validators: u32,
@@ -47,7 +48,7 @@ fn put_meeting(
         }
         MeetingFrame::Summary(parts) => {
             out.push(3)?;
-            put_parts(parts.as_slice(), out)
+            put_parts(validators, parts.as_slice(), out)
         }
         MeetingFrame::Torn(numbers) => {
             out.push(4)?;

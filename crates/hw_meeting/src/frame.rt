@@ -29,7 +29,7 @@ pub enum MeetingFrame {
 pub enum FrameError {
     /// They spell none.
     Form,
-    /// There was no memory.
+    /// It was out of memory.
     OutOfMemory,
 }
 

@@ -1,6 +1,6 @@
 //! What a summary says of each validator, as bytes.
 
-ghost use Rattle.std.specs.Prelude.{◌≡◌, ◌<◌, ◌^◌, ◌++◌, length, OnOk};
+ghost use Rattle.std.specs.Prelude.{◌≡◌, ◌++◌, length, OnOk};
 ghost use Rattle.hw_types.specs.{Reading.{Gives, many_at, counted_at}, Spelling.{counted}};
 ghost use Rattle.hw_meeting.specs.Frames.{part_bytes, unit_count_at, part_behind, part_at};
 
@@ -72,12 +72,16 @@ fn read_unit_count(reader: &mut Reader<'_>) -> Result<u64, CodecError>
     Ok(count)
 }
 
-/// Writes how many parts there are, and each of them.
-pub(crate) fn put_parts(parts: &[LaneSummary], out: &mut Vec<u8>) -> Result<(), OutOfMemory>
-    requires { length parts.now < 2 ^ 32 }
+/// Writes the count of the parts, which is given, and each of them.
+pub(crate) fn put_parts(
+    count: u32,
+    parts: &[LaneSummary],
+    out: &mut Vec<u8>,
+) -> Result<(), OutOfMemory>
+    requires { length parts.now ≡ count }
     ensures { OnOk result (out.new.items ≡ out.old.items ++ counted part_bytes parts.now) }
 {
-    out.extend_from_slice(&(parts.len() as u32).to_be_bytes())?;
+    out.extend_from_slice(&count.to_be_bytes())?;
     for part in parts {
         put_part(part, out)?;
     }

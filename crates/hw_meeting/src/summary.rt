@@ -1,6 +1,6 @@
 //! What a node's journal has of each validator.
 //!
-//! A validator's units are a line exactly where each is on the lane of its highest settled one. So one pass
+//! A validator's units are a line exactly when each is on the lane of its highest settled one. So one pass
 //! over the graph finds the highest units, and one over the journal tests each unit against them.
 
 ghost use Rattle.std.specs.{Prelude.{◌≡◌, ◌<◌, length, map, IfOk, IfSome}, List.{range_with_len}};
@@ -22,7 +22,7 @@ use std::alloc::Global;
 /// What the node has of each validator, in their order. `Nothing` is no unit. `Line` is n units, all settled
 /// and all on the lane of the one with this digest. `Tangled` is anything else.
 ///
-/// It goes over the graph and the journal once, and takes memory for a few words a validator.
+/// It goes over the graph and the journal once, and takes memory for a few words for each validator.
 pub fn summary_of(alloc: Global, core: &Core) -> Result<SummaryList, OutOfMemory>
     ensures { IfOk result (λ parts. parts ≡ summaries (setting_of core.now.config) core.now.journal) }
 {

@@ -12,9 +12,10 @@ use hw_dag::Dag;
 use hw_types::{Digest, IndexList, Items, OutOfMemory};
 use std::alloc::Global;
 
-/// The validators that are torn for the node, in rising order, by the other node's summary. Both nodes have
-/// units of each. Either one of the two has a tangle; or both have lines, the node's is no shorter, and the
-/// other's tip isn't on it.
+/// The validators that are torn for the node, in rising order, by the other node's summary.
+///
+/// Both nodes have units of each. Either one of the two has a tangle, or both have lines, the node's is no
+/// shorter, and the other's tip isn't on it.
 ///
 /// `mine` is the node's own summary.
 pub fn torn_for(
@@ -26,7 +27,7 @@ pub fn torn_for(
     requires { mine.now ≡ summaries (setting_of core.now.config) core.now.journal }
     ensures torn { IfOk result (λ torn. torn ≡ torn_for (setting_of core.now.config) core.now.journal theirs.now) }
 
-    // They may be said in a frame.
+    // They fit a frame.
     ensures said { IfOk result (λ torn. are_validators (length core.now.config.weights) torn ≡ true) }
 {
     let dag = core.state().dag();
@@ -39,7 +40,7 @@ pub fn torn_for(
     Ok(torn)
 }
 
-/// Puts the item last, where it is so.
+/// Puts the item last, if `is_so`.
 pub(crate) fn put_if<T: Drop>(is_so: bool, item: T, list: &mut Items<T>) -> Result<(), OutOfMemory>
     ensures { OnOk result (list.new ≡ list.old ++ (if is_so then item ∷ [] else [])) }
 {

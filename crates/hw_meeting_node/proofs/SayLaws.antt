@@ -54,9 +54,13 @@ summary_said s journal = (
 pub sends_one : (T : Type 0) (f : MeetingFrame) (old new : Option (List Session)) (r : Result T SessionEnd) → Sends {T = T} (framed f) old new r → Sends {T = T} (sent_bytes (f ∷ [])) old new r
 sends_one T f old new r s = subst (λ (bytes : List ℕ). Sends {T = T} bytes old new r) (sym (append-nil (framed f))) s
 
+-- nothing, of a call with this answer
+pub sends_none : (T : Type 0) (x : T) (old : Option (List Session)) → Sends {T = T} [] old old (Ok x)
+sends_none T x old = record { part = []; first = (0, refl); whole = refl; told = sym (after_nothing old); error = tt }
+
 -- nothing
 pub sends_nothing : (old : Option (List Session)) → Sends {T = Unit {0}} [] old old (Ok tt)
-sends_nothing old = record { part = []; first = (0, refl); whole = refl; told = sym (after_nothing old); error = tt }
+sends_nothing old = sends_none (Unit {0}) tt old
 
 -- frames, and then others
 pub sends_both : (T : Type 0) (fs gs : List MeetingFrame) (old now new : Option (List Session)) (r : Result T SessionEnd) → Sends {T = Unit {0}} (sent_bytes fs) old now (Ok tt) → Sends {T = T} (sent_bytes gs) now new r → Sends {T = T} (sent_bytes (fs ++ gs)) old new r

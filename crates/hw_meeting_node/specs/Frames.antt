@@ -1,4 +1,4 @@
--- The frame of a node that is met, in a peer's bytes, where there are so many validators.
+-- The frame of a node that is met, in a peer's bytes, where there are this many validators.
 -- Source: ours.
 use Rattle.std.specs.Prelude.{ℕ, List, Result}
 use Rattle.std.specs.List.{flat_map}
@@ -11,7 +11,7 @@ use Rattle.hw_meeting.specs.Frames.{meeting_bytes, meeting_of}
 
 -- ---- what is sent
 
--- a frame behind its length
+-- a frame after its length
 abbrev pub framed : MeetingFrame → List ℕ
 framed f = behind_length (meeting_bytes f)
 
@@ -25,11 +25,11 @@ sent_bytes frames = flat_map framed frames
 abbrev pub Placed : Type 0
 Placed = PlacedOf MeetingFrame
 
--- the frame that begins here, and what is left behind it, or how the session ends
+-- the frame that begins here, and what is left after it, or how the session ends
 abbrev pub frame_here : ℕ → Rest → Result (Placed × Rest) SessionEnd
 frame_here validators r = frame_by (meeting_of validators) r
 
--- these bytes are a frame at this place, whatever comes behind them
+-- these bytes are a frame at this place, whatever comes after them
 abbrev pub HasFrame : ℕ → ℕ → List ℕ → MeetingFrame → Type 0
 HasFrame validators place part f = HasBy (frame_here validators) place part f
 
@@ -37,6 +37,6 @@ HasFrame validators place part f = HasBy (frame_here validators) place part f
 abbrev pub EndsIn : ℕ → ℕ → List ℕ → SessionEnd → Type 0
 EndsIn validators place part e = EndsBy (frame_here validators) place part e
 
--- whatever comes behind these bytes, there is no frame in them, and the session ends so
+-- whatever comes after these bytes, there is no frame in them, and the session ends so
 abbrev pub IsRefused : ℕ → ℕ → List ℕ → SessionEnd → Type 0
 IsRefused validators place part e = IsRefusedBy (frame_here validators) place part e

@@ -23,11 +23,11 @@ use Rattle.hw_meeting_node.specs.Meeting.{Meeting, told_of}
 
 -- ---- what a node keeps of a meeting
 
--- where it stands: what it owes is kept as places in the journal
+-- its state: what it owes is kept as places in the journal
 abbrev pub meeting_of : Meeter → CoreState → Meeting
 meeting_of k c = record { stage = k.stage; core = c; refused = k.refused; theirs = k.theirs; due = filter_map (slice_get c.journal) k.due }
 
--- until it takes vertices it keeps what it tells of each validator
+-- until it takes vertices it keeps what it says of each validator
 abbrev pub IsTold : Stage → List LaneSummary → CoreState → Type 0
 IsTold Greeting mine c = mine ≡ told_of c
 IsTold Telling mine c = mine ≡ told_of c
@@ -41,8 +41,8 @@ pub record IsKept (k : Meeter) (c : CoreState) : Type 0 where
 
 -- ---- what it did by a reaction
 
--- It did what the reaction says, and sent all of the answer; or a fault of the link or want of memory cut that short. Where an append failed
--- the vertex was taken.
+-- It did what the reaction says, and sent all of the answer. A fault of the link, or out of memory, may have cut that
+-- short. Where an append failed the vertex was taken.
 abbrev pub Reacts : {T : Type 0} → CoreState → Reaction Meeting → Meeting → Option (List Session) → Option (List Session) → Result T SessionEnd → Type 0
 Reacts c r now old new (Ok x) = (r.end ≡ None) × (now ≡ r.state) × (new ≡ after_part [] (sent_bytes r.says) false old)
 Reacts c r now old new (Err end.LinkFault) = (now.core ≡ r.state.core) × (part : List ℕ) × IsPrefixOf part (sent_bytes r.says) × (new ≡ after_part [] part true old)

@@ -10,7 +10,7 @@ use Rattle.hw_meeting.specs.Frames.{meeting_of}
 use Rattle.hw_meeting_node.specs.declared.read.HeardMeeting.{HeardMeeting}
 use Rattle.hw_meeting_node.specs.Frames.{frame_here, HasFrame}
 
--- what these bytes say of a frame, where there are so many validators
+-- what these bytes say of a frame, where there are this many validators
 abbrev pub Says : {T : Type 0} → ℕ → (ℕ → List ℕ → T → Type 0) → ℕ → List ℕ → Result T SessionEnd → Type 0
 Says validators Whole place part result = SaysBy (frame_here validators) Whole place part result
 
@@ -22,10 +22,10 @@ IsEndCounted validators before now place part result = IsEndCountedBy (frame_her
 abbrev pub Hears : {T : Type 0} → ℕ → (ℕ → List ℕ → T → Type 0) → ℕ → List ℕ → Option (List Session) → Option (List Session) → ℕ → ℕ → Result T SessionEnd → Type 0
 Hears validators Whole place before old new ends_old ends_new result = HearsBy (frame_here validators) Whole place before old new ends_old ends_new result
 
--- a frame, and the place behind it
+-- a frame, and the place after it
 abbrev pub IsHeard : ℕ → ℕ → List ℕ → HeardMeeting → Type 0
 IsHeard validators place part h = HasFrame validators place part h.frame × (h.next ≡ place + length part)
 
--- the bytes behind a length are this frame, or none
+-- the bytes after a length are this frame, or none
 abbrev pub IsDecoded : ℕ → ℕ → List ℕ → Result HeardMeeting SessionEnd → Type 0
 IsDecoded validators place body result = MatchResult result (λ h. (meeting_of validators body ≡ Ok h.frame) × (h.next ≡ place + (4 + length body))) (λ e. (e ≡ OutOfMemory) ⊎ ((e ≡ BadFrame place) × (c : CodecError) × (meeting_of validators body ≡ Err c)))

@@ -46,13 +46,13 @@ judged judge vertices = map (λ v. (v, judge v)) vertices
 abbrev pub refusals : List (Result Receipt Cause) → ℕ
 refusals answers = fold (λ k a. if is_ok a then k else raised k) 0 answers
 
--- all that a node says that has received this, by what the other tells
+-- all that a node says that has received this, by what the other says
 abbrev pub all_words : CoreState → List LaneSummary → List ℕ → List MeetingFrame
 all_words c theirs torn = frame.Hello (instance_of c.config) ∷ frame.Summary (told_of c) ∷ frame.Torn (torn_by c theirs) ∷ all_due (owed_by c theirs torn)
 
--- The peer said Hello of this instance, what it has of each validator, which are torn for it, vertices, and Done. The node said Hello, what
--- it has of each, which are torn for it, all that is due, and Done. Its journal is the one after these vertices, as many were refused as it
--- counted, and its last question stayed.
+-- The peer said Hello of this instance, what it has of each validator, which are torn for it, vertices, and Done. The
+-- node said Hello, what it has of each, which are torn for it, all that is due, and Done. Its journal is the one after
+-- these vertices, as many were refused as it counted, and its last question stayed.
 pub record WasDone (side : Side) (c : CoreState) (judge : Vertex → Bool) (bytes : List ℕ) : Type 0 where
   pub theirs : List LaneSummary
   pub torn : List ℕ
@@ -65,14 +65,14 @@ pub record WasDone (side : Side) (c : CoreState) (judge : Vertex → Bool) (byte
   pub asked : (met side c judge bytes).state.core.asked ≡ c.asked
   pub refused : (met side c judge bytes).state.refused ≡ refusals (answers_from (setting_of c.config) c.journal (judged judge vertices))
 
--- So it is where a meeting ended as both said.
+-- So it is where a meeting ended as done.
 abbrev pub MeetingsAreDone : Type 0
 MeetingsAreDone = (side : Side) (c : CoreState) (judge : Vertex → Bool) (bytes : List ℕ) → (met side c judge bytes).end ≡ by.Done → WasDone side c judge bytes
 
 -- ---- what was taken
 
--- The journal behind these bytes is the one before them with the vertices that were taken, in order, as many were refused as the meeting
--- counted, and the node's last question stayed.
+-- The journal after these bytes is the one before them with the vertices that were taken, in order. As many were
+-- refused as the meeting counted, and the node's last question stayed.
 pub record HasTakenAll (side : Side) (c : CoreState) (judge : Vertex → Bool) (bytes : List ℕ) : Type 0 where
   pub config : (met side c judge bytes).state.core.config ≡ c.config
   pub journal : (met side c judge bytes).state.core.journal ≡ fold (journal_after (setting_of c.config)) c.journal (judged judge (taken_in side c judge bytes))
@@ -105,14 +105,14 @@ vertices_sent validators bytes = vertices_among (frames_of validators bytes).giv
 abbrev pub MeetingsTakeTheFirst : Type 0
 MeetingsTakeTheFirst = (side : Side) (c : CoreState) (judge : Vertex → Bool) (bytes : List ℕ) → (count : ℕ) × (taken_in side c judge bytes ≡ take count (vertices_sent (length c.config.weights) bytes))
 
--- Each vertex that a node says stood in its journal before the meeting.
+-- Each vertex that a node says was in its journal before the meeting.
 abbrev pub MeetingsSayWhatStood : Type 0
 MeetingsSayWhatStood = (side : Side) (c : CoreState) (judge : Vertex → Bool) (bytes : List ℕ) (v : Vertex) → Among (frame.Vertex v) (met side c judge bytes).said → Among v c.journal
 
 -- ---- completeness
 
--- Where the peer sends the frames that are due, with what it would still send, and doesn't end, and no count of the outside rose, a meeting
--- ends as both said, or for want of memory.
+-- The peer sends the frames that are due, with what it would still send, and doesn't end, and no count of the outside
+-- rose. Then a meeting ends as done, or out of memory.
 abbrev pub MeetingsAreComplete : Type 0
 MeetingsAreComplete = (side : Side) (c : CoreState) (judge : Vertex → Bool) (read written : List ℕ) (m : CoreState) (ends_old ends_new : ℕ) (e : MeetEnd) → Meets side c judge read written m ends_old ends_new e
     → (more : List ℕ) → length (read ++ more) ≤ byte_limit → (met side c judge (read ++ more)).end ≡ by.Done → (ends_new ≡ raised ends_old → ⊥)
@@ -122,7 +122,8 @@ MeetingsAreComplete = (side : Side) (c : CoreState) (judge : Vertex → Bool) (r
 
 -- ---- ranges
 
--- All that a node says in a meeting that ended as both said is in the ranges of its types, where its journal is: its length, and each vertex.
+-- All that a node says in a meeting that ended as done is in the ranges of its types, where its journal is. That is the
+-- journal's length, and each vertex.
 abbrev pub MeetingsSayInRange : Type 0
 MeetingsSayInRange = (side : Side) (c : CoreState) (judge : Vertex → Bool) (bytes : List ℕ) → config_fault c.config ≡ None → length c.journal < 2 ^ 64 → All VertexInRange c.journal
     → (met side c judge bytes).end ≡ by.Done → All MeetingInRange (met side c judge bytes).said
@@ -133,9 +134,9 @@ MeetingsSayInRange = (side : Side) (c : CoreState) (judge : Vertex → Bool) (by
 abbrev pub node_of : Config → List (Vertex × Bool) → Option LastQuestion → CoreState
 node_of config deliveries asked = record { config = config; journal = journal_of (setting_of config) deliveries; asked = asked }
 
--- A caller and a host of one configuration, whatever they were asked before, met, as a meeting promises it: both meetings ended as done with
--- nothing refused, and each read what the other wrote. Each number that was written is in its type's range, and the units of the two journals
--- keep the limits of their format, as a node's do.
+-- A caller and a host of one configuration, whatever they were asked before, met, as a meeting promises it. Both
+-- meetings ended as done with nothing refused, and each read what the other wrote. Each number that was written is in
+-- its type's range. The units of the two journals keep the limits of their format, as a node's do.
 pub record HaveMet (config : Config) (left right : List (Vertex × Bool)) (judge_left judge_right : Vertex → Bool) (one other : CoreState) : Type 0 where
   pub asked_left : Option LastQuestion
   pub asked_right : Option LastQuestion
@@ -151,7 +152,7 @@ pub record HaveMet (config : Config) (left right : List (Vertex × Bool)) (judge
   pub left_in_range : All MeetingInRange (met Caller (node_of config left asked_left) judge_left read_left).said
   pub right_in_range : All MeetingInRange (met Host (node_of config right asked_right) judge_right read_right).said
 
--- Then the two journals say the same, or two different units of one digest stand in the two.
+-- Then the two journals say the same, or two different units of one digest are in the two.
 abbrev pub MeetingsConverge : Type 0
 MeetingsConverge = (config : Config) (left right : List (Vertex × Bool)) (judge_left judge_right : Vertex → Bool) (one other : CoreState) → HaveMet config left right judge_left judge_right one other
     → SaysTheSame (setting_of config) one.journal other.journal ⊎ UnitsClash (setting_of config) one.journal other.journal

@@ -22,21 +22,21 @@ use Rattle.hw_meeting_node.specs.declared.meeter.Stage.{Stage}
 use Rattle.hw_meeting_node.specs.declared.meeter.Stage.TheVariants.{Greeting, Telling, Tearing, Taking}
 use Rattle.hw_meeting_node.specs.Talk.{Reaction, Talk, goes_on, ends, talk_over}
 
--- ---- what a node tells that has received this; nothing is taken before all of it is told
+-- ---- what a node reports that has received this; nothing is taken before all of it is said
 
 -- of each validator's units
 abbrev pub told_of : CoreState → List LaneSummary
 told_of c = summaries (setting_of c.config) c.journal
 
--- which validators are torn for it, by what the other tells
+-- which validators are torn for it, by the other's summary
 abbrev pub torn_by : CoreState → List LaneSummary → List ℕ
 torn_by c theirs = torn_for (setting_of c.config) c.journal theirs
 
--- what it owes the other, by what the other tells and the validators that are torn for the other
+-- what it owes the other, by the other's summary and the validators that are torn for the other
 abbrev pub owed_by : CoreState → List LaneSummary → List ℕ → List Vertex
 owed_by c theirs torn = due_of c.journal (told_of c) theirs (torn_by c theirs ++ torn)
 
--- ---- its four words, in their order: the caller says one before each frame that it reads, the host one behind it
+-- ---- its four words, in their order: the caller says one before each frame that it reads, the host one after it
 
 -- the instance that it is of
 abbrev pub hello : CoreState → List MeetingFrame
@@ -46,7 +46,7 @@ hello c = frame.Hello (instance_of c.config) ∷ []
 abbrev pub summary : CoreState → List MeetingFrame
 summary c = frame.Summary (told_of c) ∷ []
 
--- the validators that are torn for it, by what the other tells
+-- the validators that are torn for it, by the other's summary
 abbrev pub torn : CoreState → List LaneSummary → List MeetingFrame
 torn c theirs = frame.Torn (torn_by c theirs) ∷ []
 
@@ -79,9 +79,10 @@ abbrev pub to_done : Side → List Vertex → List MeetingFrame
 to_done Caller due = []
 to_done Host due = all_due due
 
--- ---- where it stands
+-- ---- its state
 
--- What it waits for, what it has received, how many of the other's vertices it refused, what the other told, and what it owes the other.
+-- what it waits for, what it has received, the count of the other's vertices that it refused, the other's summary, and
+-- what it owes
 pub record Meeting : Type 0 where
   pub stage : Stage
   pub core : CoreState
@@ -103,7 +104,7 @@ not_due m at = ends m [] (end.BadFrame at)
 abbrev pub greeted : Side → Meeting → Digest → Reaction Meeting
 greeted side m instance = if digest_eq instance (instance_of m.core.config) then goes_on (record m { stage = Telling }) (to_hello side m.core) else ends m [] end.WrongInstance
 
--- what the other tells
+-- the other's summary
 abbrev pub told : Side → Meeting → List LaneSummary → Reaction Meeting
 told side m theirs = goes_on (record m { stage = Tearing; theirs = theirs }) (to_summary side m.core theirs)
 
@@ -136,12 +137,12 @@ abbrev pub at_greeting : Side → Meeting → ℕ → MeetingFrame → Reaction 
 at_greeting side m at (frame.Hello instance) = greeted side m instance
 at_greeting side m at f = not_due m at
 
--- a frame where the other is to tell what it has of each lane
+-- a frame where the other is to say what it has of each lane
 abbrev pub at_telling : Side → Meeting → ℕ → MeetingFrame → Reaction Meeting
 at_telling side m at (frame.Summary theirs) = told side m theirs
 at_telling side m at f = not_due m at
 
--- a frame where the other is to tell which validators are torn for it
+-- a frame where the other is to say which validators are torn for it
 abbrev pub at_tearing : Side → Meeting → ℕ → MeetingFrame → Reaction Meeting
 at_tearing side m at (frame.Torn torn) = given_torn side m torn
 at_tearing side m at f = not_due m at
@@ -163,7 +164,8 @@ at_stage Taking side judge m at f = at_taking side judge m at f
 unfoldable pub meet_step : Side → (Vertex → Bool) → Meeting → Placed → Reaction Meeting
 meet_step side judge m f = at_stage m.stage side judge m f.at f.frame
 
--- The session of a node on this side that had received this, and gives vertices these verdicts, with a peer that sends these bytes.
+-- The session of a node on this side, which had received this and gives vertices these verdicts, with a peer that sends
+-- these bytes.
 abbrev pub met : Side → CoreState → (Vertex → Bool) → List ℕ → Talk Meeting
 met side c judge bytes = talk_over (length c.config.weights) (first_word side c) (meet_step side judge) (begun c) bytes
 

@@ -11,7 +11,7 @@ use Rattle.hw_meeting_node.specs.Frames.{framed, HasFrame, EndsIn, IsRefused}
 abbrev pub two_parts : MeetingFrame
 two_parts = Summary (Nothing ∷ Tangled ∷ [])
 
--- A summary of two is a frame among two validators. Among three it is none, whatever comes behind it.
+-- A summary of two is a frame among two validators. Among three it is none, whatever comes after it.
 pub record ThatASummaryIsHeard : Type 0 where
   pub heard : HasFrame 2 37 (framed two_parts) two_parts
   pub refused : IsRefused 3 37 (framed two_parts) (BadFrame 37)

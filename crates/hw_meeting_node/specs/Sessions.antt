@@ -23,7 +23,7 @@ use Rattle.hw_meeting_node.specs.Meeting.{Meeting, met, met_said}
 
 -- ---- how it ended
 
--- how a meeting ends, where so many vertices were refused
+-- how a meeting ends, where this many vertices were refused
 abbrev pub meet_end : SessionEnd → ℕ → MeetEnd
 meet_end by.Done refused = end.Done refused
 meet_end by.EndOfInput refused = end.EndOfInput
@@ -39,7 +39,7 @@ meet_end by.OutOfMemory refused = end.OutOfMemory
 abbrev pub end_of : Talk Meeting → MeetEnd
 end_of t = meet_end t.end t.state.refused
 
--- the outside failed, or there was no memory
+-- the outside failed, or it was out of memory
 abbrev pub IsOfOutside : MeetEnd → Type 0
 IsOfOutside end.LinkFault = Unit {0}
 IsOfOutside end.AppendFault = Unit {0}
@@ -50,12 +50,12 @@ IsOfOutside e = ⊥
 abbrev pub EndsAs : MeetEnd → Talk Meeting → Type 0
 EndsAs e t = (e ≡ end_of t) ⊎ IsOfOutside e
 
--- a frame ended the session: it is the same, whatever the peer sends behind these bytes
+-- a frame ended the session: it is the same, whatever the peer sends after these bytes
 abbrev pub IsFinal : Side → CoreState → (Vertex → Bool) → List ℕ → Type 0
 IsFinal side c judge read = (more : List ℕ) → length (read ++ more) ≤ byte_limit → met side c judge (read ++ more) ≡ met side c judge read
 
--- The number of ends rose where the peer's bytes ended, and as many bytes were read as may be where that ended the session. An end by a frame
--- needs neither.
+-- The number of ends rose where the peer's bytes ended, and as many bytes were read as may be where that ended the
+-- session. An end by a frame needs neither.
 abbrev pub IsEndOf : Side → CoreState → (Vertex → Bool) → List ℕ → ℕ → ℕ → MeetEnd → Type 0
 IsEndOf side c judge read before now end.EndOfInput = now ≡ raised before
 IsEndOf side c judge read before now (end.BadFrame at) = (now ≡ raised before) ⊎ IsFinal side c judge read
@@ -72,45 +72,47 @@ IsCutEnd (by.BadFrame at) = Unit {0}
 IsCutEnd by.ByteLimit = Unit {0}
 IsCutEnd e = ⊥
 
--- No byte was read past a frame that ends the session: where fewer are read, it ends as one that is cut, and not by Done, by a Hello of another
--- instance or by a clash.
+-- No byte was read past a frame that ends the session. Where fewer are read, it ends as one that is cut. It doesn't end
+-- by Done, by a Hello of another instance or by a clash.
 abbrev pub IsReadNoFurther : (List ℕ → SessionEnd) → List ℕ → Type 0
 IsReadNoFurther ends read = (first part : List ℕ) → read ≡ first ++ part → part ≢ [] → IsCutEnd (ends first)
 
--- So it is of each session but one that had no memory, which may end inside whatever frame is there.
+-- So it is of each session but one that was out of memory, which may end inside whatever frame is there.
 abbrev pub StopsReading : MeetEnd → (List ℕ → SessionEnd) → List ℕ → Type 0
 StopsReading end.OutOfMemory ends read = Unit {0}
 StopsReading e ends read = IsReadNoFurther ends read
 
--- All that was said was written; after a fault of the link or want of memory a first part of it.
+-- All that was said was written; after a fault of the link, or out of memory, a first part of it.
 abbrev pub IsWritten : MeetEnd → List MeetingFrame → List ℕ → Type 0
 IsWritten end.LinkFault said written = IsPrefixOf written (sent_bytes said)
 IsWritten end.OutOfMemory said written = IsPrefixOf written (sent_bytes said)
 IsWritten e said written = written ≡ sent_bytes said
 
--- Each frame's answer was out before a byte of the next frame was read: what is said to the first of these bytes, and not yet to all of them,
--- stands first in what was written.
+-- Each frame's answer was out before a byte of the next frame was read. What is said to the first of these bytes, and
+-- not yet to all of them, comes first in what was written.
 abbrev pub IsAnswered : (List ℕ → List ℕ) → List ℕ → List ℕ → Type 0
 IsAnswered says read written = (first part : List ℕ) → read ≡ first ++ part → part ≢ [] → IsPrefixOf (says first) written
 
 -- ---- what it left
 
--- it stands where the first of these bytes leave it
+-- it is in the state in which the first of these bytes leave it
 pub record StandsBefore (side : Side) (c : CoreState) (judge : Vertex → Bool) (read : List ℕ) (m : CoreState) : Type 0 where
   pub first : List ℕ
   pub part : List ℕ
   pub split : read ≡ first ++ part
   pub stands : m ≡ (met side c judge first).state.core
 
--- The node has taken the vertices that these bytes hold, in order. Where there was no memory it may have taken the first of them alone.
+-- The node has taken the vertices that these bytes hold, in order. Where it was out of memory it may have taken only
+-- the first of them.
 abbrev pub Leaves : MeetEnd → Side → CoreState → (Vertex → Bool) → List ℕ → CoreState → Type 0
 Leaves end.OutOfMemory side c judge read m = StandsBefore side c judge read m
 Leaves e side c judge read m = m ≡ (met side c judge read).state.core
 
 -- ---- one session
 
--- A node met a peer that sent these bytes: how the session ended, what was written, and what the node has received. Where the link failed, only
--- the answer to the last of the frames that were read whole may be wanting, and only if no byte was read behind that frame.
+-- A node met a peer that sent these bytes: how the session ended, what was written, and what the node has received.
+-- Where the link failed, only the answer to the last of the frames that were read whole may be missing. It may be so
+-- only if no byte was read after that frame.
 pub record Meets (side : Side) (c : CoreState) (judge : Vertex → Bool) (read written : List ℕ) (m : CoreState) (ends_old ends_new : ℕ) (e : MeetEnd) : Type 0 where
   pub within : length read ≤ byte_limit
   pub ended : EndsAs e (met side c judge read)
@@ -132,7 +134,8 @@ pub record MeetsThere (side : Side) (c : CoreState) (judge : Vertex → Bool) (m
   pub meets : Meets side c judge read written m old.ends new.ends e
   pub told : new.sessions ≡ after_part read written (is_link_end e) old.sessions
 
--- A node met a peer, in a session that the door tells behind the others, with the address that was dialled, if one was.
+-- A node met a peer, in a session that the door reports after the others, with the address that was dialled, if one
+-- was.
 pub record MeetsPeer (side : Side) (address : Option (List ℕ)) (c : CoreState) (judge : Vertex → Bool) (m : CoreState) (old new : DoorTold) (e : MeetEnd) : Type 0 where
   pub read : List ℕ
   pub written : List ℕ
@@ -147,7 +150,7 @@ CallsPeer address c judge m old new e = MeetsPeer Caller (Some address) c judge 
 abbrev pub HostsPeer : CoreState → (Vertex → Bool) → CoreState → DoorTold → DoorTold → MeetEnd → Type 0
 HostsPeer c judge m old new e = MeetsPeer Host None c judge m old new e
 
--- there was no memory to take or to dial a peer, and nothing was done
+-- it was out of memory to accept or to dial a peer, and nothing was done
 pub record MeetsNone (c m : CoreState) (old new : Option (List Session)) (e : MeetEnd) : Type 0 where
   pub ended : e ≡ end.OutOfMemory
   pub stands : m ≡ c

@@ -9,8 +9,9 @@ use Rattle.hw_io.specs.Faults.{Rose}
 use Rattle.hw_meeting_node.specs.declared.taker.TakeFault.{TakeFault}
 use Rattle.hw_meeting_node.specs.declared.taker.TakeFault.TheVariants.{Refused, AppendFault, OutOfMemory}
 
--- The vertex is delivered with this verdict, and the answer is that of the definitions: an accepted vertex goes last in the journal, and
--- nothing else changes. After a failed append it stands in the journal; and so it may where there was no memory for the append.
+-- The vertex is delivered with this verdict, and the answer is that of the definitions. An accepted vertex goes last in
+-- the journal, and nothing else changes. After a failed append it is in the journal. It may be there too where it was
+-- out of memory for the append.
 abbrev pub Takes : CoreState → Vertex → Bool → CoreState → Result Receipt TakeFault → Type 0
 Takes c v verdict m (Ok receipt) = (answer_in c v verdict ≡ Ok receipt) × (m ≡ after_in c v verdict)
 Takes c v verdict m (Err (Refused cause)) = (answer_in c v verdict ≡ Err cause) × (m ≡ c)

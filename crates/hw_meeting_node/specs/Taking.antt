@@ -40,7 +40,7 @@ abbrev pub taken_then : List Vertex → Option Vertex → List Vertex
 taken_then taken None = taken
 taken_then taken (Some v) = taken ++ v ∷ []
 
--- a reaction of the meeting, behind which these vertices were taken
+-- a reaction of the meeting, after which these vertices were taken
 abbrev pub with_taken : Reaction Meeting → List Vertex → Reaction TakingMeeting
 with_taken r taken = record { state = record { meeting = r.state; taken = taken }; says = r.says; end = r.end }
 
@@ -92,8 +92,8 @@ pub record TakesUntil {T : Type 0} (step : TakeStep T) (taken : List ℕ → Lis
   pub takes : TakesAll step t (taken first) before
   pub stops : step before vertex (Err why) u
 
--- It took the vertices of these bytes, in order. Where an append failed that was so of the last one; and where there was no memory, for the last one or
--- before some of the bytes were handled.
+-- It took the vertices of these bytes, in order. Where an append failed, it failed for the last one. Where it was out
+-- of memory, it was so for the last one, or before some of the bytes were handled.
 abbrev pub Took : {T : Type 0} → TakeStep T → (List ℕ → List Vertex) → List ℕ → MeetEnd → T → T → Type 0
 Took step taken read end.AppendFault t u = TakesUntil step taken read fault.AppendFault t u
 Took step taken read end.OutOfMemory t u = TakesFirst step taken read t u ⊎ TakesUntil step taken read fault.OutOfMemory t u
@@ -115,12 +115,12 @@ pub record TakesThere {T : Type 0} (step : TakeStep T) (side : Side) (judge : Ve
   pub meets : MeetsThere side before.core judge after.core old new e
   pub took : Took step (taken_in side before.core judge) meets.read e before.taker after.taker
 
--- The same in a session that the door tells behind the others, with the address that was dialled, if one was.
+-- The same in a session that the door reports after the others, with the address that was dialled, if one was.
 pub record TakesPeer {T : Type 0} (step : TakeStep T) (side : Side) (address : Option (List ℕ)) (judge : Vertex → Bool) (before after : WithTaker T) (old new : DoorTold) (e : MeetEnd) : Type 0 where
   pub meets : MeetsPeer side address before.core judge after.core old new e
   pub took : Took step (taken_in side before.core judge) meets.read e before.taker after.taker
 
--- there was no memory to take or to dial a peer, and nothing was done
+-- it was out of memory to accept or to dial a peer, and nothing was done
 pub record TakesNone {T : Type 0} (before after : WithTaker T) (old new : Option (List Session)) (e : MeetEnd) : Type 0 where
   pub meets : MeetsNone before.core after.core old new e
   pub stays : after.taker ≡ before.taker
@@ -143,7 +143,7 @@ abbrev pub TakesOf : {T R : Type 0} → TakeStep T → Option Vertex → T → T
 TakesOf step None t u result = (u ≡ t) × StoresNone result
 TakesOf step (Some v) t u result = (answer : Result Receipt TakeFault) × step t v answer u × ShowsAnswer answer result
 
--- where a node stands in a meeting, and what takes its vertices
+-- the state of a node in a meeting, and what takes its vertices
 pub record MeetingWith (T : Type 0) : Type 0 where
   pub meeting : Meeting
   pub taker : T
@@ -152,7 +152,8 @@ pub record MeetingWith (T : Type 0) : Type 0 where
 abbrev pub meeting_with : {T : Type 0} → Meeting → T → MeetingWith T
 meeting_with meeting taker = record { meeting = meeting; taker = taker }
 
--- There was no frame at a place of the session, and nothing changed; or there was one, it was handled, and its vertex taken if one was due.
+-- Either no frame was at a place of the session, and nothing changed. Or one was, it was handled, and its vertex taken
+-- if one was due.
 abbrev pub GoesNext : {T : Type 0} → TakeStep T → ℕ → ℕ → (Placed → Reaction Meeting) → MeetingWith T → MeetingWith T → DoorTold → DoorTold → Result ℕ SessionEnd → Type 0
 GoesNext taking validators place step before after old new result =
     (Quits {T = ℕ} validators place before.meeting after.meeting old new result × (after.taker ≡ before.taker))

@@ -7,13 +7,13 @@ use Rattle.hw_link.specs.Frames.{rest_at, byte_limit, FramesOf, frames_by}
 use Rattle.hw_meeting.specs.declared.frame.MeetingFrame.{MeetingFrame}
 use Rattle.hw_meeting_node.specs.Frames.{Placed, frame_here}
 
--- ---- the frames in a peer's bytes, where there are so many validators
+-- ---- the frames in a peer's bytes, where there are this many validators
 
--- frames, and how the session ends behind them
+-- frames, and how the session ends after them
 abbrev pub Frames : Type 0
 Frames = FramesOf MeetingFrame
 
--- the frames from here on, in at most so many steps
+-- the frames from here on, in at most this many steps
 abbrev pub frames_in : ℕ → ℕ → Rest → Frames
 frames_in validators steps r = frames_by (frame_here validators) steps r
 
@@ -27,7 +27,7 @@ frames_of validators bytes = frames_from validators (rest_at 0 (take byte_limit 
 
 -- ---- a talk
 
--- what a node does at a frame: where it stands then, what it says, and how the session ends, if it does
+-- what a node does at a frame: its state after it, what it says, and how the session ends, if it does
 pub record Reaction (S : Type 0) : Type 0 where
   pub state : S
   pub says : List MeetingFrame
@@ -41,7 +41,7 @@ goes_on state says = record { state = state; says = says; end = None }
 abbrev pub ends : {S : Type 0} → S → List MeetingFrame → SessionEnd → Reaction S
 ends state says end = record { state = state; says = says; end = Some end }
 
--- what came of a session: where the node stands, what it said, and how it ended
+-- what came of a session: the node's state, what it said, and how it ended
 pub record Talk (S : Type 0) : Type 0 where
   pub state : S
   pub said : List MeetingFrame
@@ -54,7 +54,7 @@ with_reaction first others = elim first.end [
   | None ↦ record { state = (others first.state).state; said = first.says ++ (others first.state).said; end = (others first.state).end }
 ]
 
--- frame by frame, up to the end that a frame brings or the one behind all frames
+-- frame by frame, up to the end that a frame brings or the one after all frames
 unfoldable pub talk : {S : Type 0} → (S → Placed → Reaction S) → SessionEnd → S → List Placed → Talk S
 talk step end state [] = record { state = state; said = []; end = end }
 talk step end state (f ∷ fs) = with_reaction (step state f) (λ next. talk step end next fs)
@@ -63,7 +63,7 @@ talk step end state (f ∷ fs) = with_reaction (step state f) (λ next. talk ste
 abbrev pub talk_with : {S : Type 0} → (S → Placed → Reaction S) → S → Frames → Talk S
 talk_with step state frames = talk step frames.end state frames.given
 
--- a talk behind what was said before it
+-- a talk after what was said before it
 abbrev pub behind_said : {S : Type 0} → List MeetingFrame → Talk S → Talk S
 behind_said said t = record t { said = said ++ t.said }
 
@@ -77,11 +77,11 @@ talk_from validators step state r = talk_with step state (frames_from validators
 abbrev pub talk_over : {S : Type 0} → ℕ → List MeetingFrame → (S → Placed → Reaction S) → S → List ℕ → Talk S
 talk_over validators first step state bytes = behind_said first (talk_with step state (frames_of validators bytes))
 
--- Whatever comes behind the bytes that were read of the peer, the node has said this by then, and stands here.
+-- Whatever comes after the bytes that were read of the peer, the node has said this by then, and is in this state.
 abbrev pub HasHeard : {S : Type 0} → ℕ → List MeetingFrame → (S → Placed → Reaction S) → S → List ℕ → List MeetingFrame → S → Type 0
 HasHeard validators first step start read said state =
     (more : List ℕ) → length (read ++ more) ≤ byte_limit → talk_over validators first step start (read ++ more) ≡ behind_said said (talk_from validators step state (rest_at (length read) more))
 
--- the frame that was read behind these bytes
+-- the frame that was read after these bytes
 abbrev pub placed_behind : List ℕ → MeetingFrame → Placed
 placed_behind read f = record { at = length read; frame = f }

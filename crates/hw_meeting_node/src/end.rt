@@ -8,7 +8,7 @@ use hw_link::SessionEnd;
 /// How a meeting ends.
 #[derive(Clone, Copy, Debug, PartialEq, Eq)]
 pub enum MeetEnd {
-    /// Both sides said so. So many of the peer's vertices were refused.
+    /// Both sides said Done. This many of the peer's vertices were refused.
     Done { refused: u64 },
     /// The peer's bytes end at a frame's end.
     EndOfInput,
@@ -24,11 +24,11 @@ pub enum MeetEnd {
     ByteLimit,
     /// Two different units have one digest.
     Clash,
-    /// There was no memory.
+    /// It was out of memory.
     OutOfMemory,
 }
 
-/// How a meeting ends whose session ends so, and in which so many vertices were refused.
+/// How a meeting ends, by the end of its session and the count of refused vertices.
 pub(crate) fn meet_end(end: SessionEnd, refused: u64) -> MeetEnd
     ensures { result ≡ meet_end end refused }
 {

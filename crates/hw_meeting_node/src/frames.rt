@@ -47,7 +47,7 @@ pub(crate) fn at_hello<D: Door>(
     }
 }
 
-/// Answers a Hello: the caller tells what it has of each validator, the host says Hello.
+/// Answers a Hello: the caller says what it has of each validator, the host says Hello.
 fn answer_hello<D: Door>(
     alloc: Global,
     core: &Core,
@@ -92,7 +92,7 @@ pub(crate) fn at_summary<D: Door>(
     answer
 }
 
-/// Answers a summary: the caller tells which validators are torn for it, the host what it has of each.
+/// Answers a summary: the caller says which validators are torn for it, the host what it has of each.
 fn answer_summary<D: Door>(
     alloc: Global,
     core: &Core,
@@ -113,7 +113,7 @@ fn answer_summary<D: Door>(
     }
 }
 
-/// Handles the validators that are torn for the other. From now on it is known what is owed.
+/// Handles the validators that are torn for the other. From then on it is known what is owed.
 #[tactic(auto, using(crate::proofs::ReactLaws::sent_unstored))]
 pub(crate) fn at_torn<D: Door>(
     alloc: Global,
@@ -168,7 +168,7 @@ fn owed(
     )
 }
 
-/// Answers the validators that are torn for the other: the caller sends what it owes, the host tells which
+/// Answers the validators that are torn for the other: the caller sends what it owes, the host says which
 /// are torn for it.
 fn answer_torn<D: Door>(
     alloc: Global,

@@ -2,8 +2,8 @@
 
 ghost use Rattle.hw_meeting_node.specs.Laws.{MeetingsTake, MeetingsTakeTheFirst, MeetingsSayWhatStood, MeetingsAreDone, MeetingsAreComplete, MeetingsSayInRange, MeetingsConverge, MetNodesAreOne};
 
-/// What a node has received behind whatever bytes of a peer, by the vertices that it took of them: the first that the
-/// peer sends.
+/// What a node has received after whatever bytes of a peer, by the vertices that it took of them. These are the
+/// first that the peer sends.
 pub fn meetings_take()
     ensures take { MeetingsTake }
     ensures first { MeetingsTakeTheFirst }
@@ -14,21 +14,21 @@ pub fn meetings_say_what_stood()
     ensures { MeetingsSayWhatStood }
 {}
 
-/// What was heard and said in a meeting that ended as done, and what the node has then; and that a meeting ends
-/// so where the peer sends what is due and nothing fails.
+/// What was heard and said in a meeting that ended as done, and what the node has then. A meeting ends so where
+/// the peer sends what is due and nothing fails.
 pub fn meetings_are_done()
     ensures done { MeetingsAreDone }
     ensures complete { MeetingsAreComplete }
 {}
 
-/// What a node says in a meeting that ended as done is in the ranges of its types, where what its journal holds is. So
-/// it is with each node in hand.
+/// What a node says in a meeting that ended as done is in the ranges of its types, where its journal is. The
+/// journal of each node in hand is in range.
 pub fn meetings_say_what_is_in_range()
     ensures { MeetingsSayInRange }
 {}
 
-/// Where two nodes met, each read what the other wrote, and nothing was refused, their journals say the same and
-/// leave one state, or two different units of one digest stand in the two.
+/// Two nodes met, each read what the other wrote, and nothing was refused. Then their journals say the same and
+/// leave one state, or two different units of one digest are in the two.
 pub fn meetings_converge()
     ensures converge { MeetingsConverge }
     ensures states { MetNodesAreOne }

@@ -1,9 +1,9 @@
-//! A meeting of two nodes: each tells the other of its lanes, and sends what the other lacks.
+//! A meeting of two nodes: each sends the other a summary of its lanes, and what the other lacks.
 //!
 //! The node that dials is the caller, the other the host. Both say Hello, a summary of their lanes and the
-//! validators that are torn for them, the caller first; then the caller sends its vertices that are due, and
-//! Done, and then the host. What a node does at a frame is a reaction of the definitions, and a meeting is the
-//! talk that these make over the frames of the peer's bytes, however the reads are cut.
+//! validators that are torn for them, the caller first. Then the caller sends its vertices that are due, and
+//! Done, and then the host. What a node does at a frame is a reaction of the definitions. A meeting is the talk
+//! that these make over the frames of the peer's bytes, however the reads are cut.
 //!
 //! A [`Taker`] is what takes the vertices: a core, and what judges them.
 #![tactic(auto)]

@@ -29,15 +29,15 @@ use std::alloc::Global;
 ///
 /// Each node says Hello, what it has of each validator, and which validators are torn for it, the caller each
 /// time first. Then the caller sends its vertices that are due, and Done, and then the other. What comes is
-/// taken; `Done` tells how many vertices were refused.
+/// taken. `Done` has the count of refused vertices.
 ///
-/// Another frame than is due, one that spells nothing and one that is cut end the meeting as `BadFrame` with the
-/// place of the frame's first byte; a Hello of another instance as `WrongInstance`; the peer's end behind a frame
-/// as `EndOfInput`; and 268,435,456 bytes as `ByteLimit`, once the frame that ends with them was handled. A
-/// failed call of the door is `LinkFault`. `AppendFault` comes from the taker, and `Clash` where it refused a
-/// vertex so.
+/// `BadFrame` is the end by a frame that isn't due, one that spells nothing, or one that is cut. It has the place
+/// of the frame's first byte. `WrongInstance` is the end by a Hello of another instance, and `EndOfInput` the end
+/// of the peer's bytes after a frame. `ByteLimit` is the end after 268,435,456 bytes, when the frame that ends with
+/// them was handled. `LinkFault` is a failed call of the door. `AppendFault` comes from the taker, and so does
+/// `Clash`, where it refused a vertex by that cause.
 ///
-/// Each of the peer's vertices is handed to the taker as its frame is handled, in order: what the taker is then
+/// Each of the peer's vertices is handed to the taker as its frame is handled, in order. What the taker is then
 /// is what each of them made of it, one after the other.
 pub fn meet_one<D: Door, T: Taker>(
     alloc: Global,
@@ -117,7 +117,7 @@ fn meet<D: Door, T: Taker>(alloc: Global, taker: &mut T, door: &mut D, side: Sid
     }
 }
 
-/// Begins a meeting: the caller says Hello.
+/// Begins a meeting. Before anything is read the caller says Hello.
 fn say_first<D: Door>(
     alloc: Global,
     core: &Core,
@@ -132,25 +132,12 @@ fn say_first<D: Door>(
     ensures rest { OnlySends D.Door door.old door.new }
 {
     let meeter = begin(alloc, core)?;
-    first_word(alloc, core, door, side)?;
-    Ok(meeter)
-}
-
-/// What is said before anything is read: by the caller Hello.
-fn first_word<D: Door>(
-    alloc: Global,
-    core: &Core,
-    door: &mut D,
-    side: Side,
-) -> Result<(), SessionEnd>
-    requires open { D.is_open door.old ≡ true }
-    ensures sent { Sends (sent_bytes (first_word side core.now)) (D.sessions door.old) (D.sessions door.new) result }
-    ensures cause { IsLinkCounted (D.faults door.old) (D.faults door.new) result }
-    ensures rest { OnlySends D.Door door.old door.new }
-{
     match side {
-        Side::Caller => say_hello(alloc, core, door),
-        Side::Host => Ok(()),
+        Side::Caller => {
+            say_hello(alloc, core, door)?;
+            Ok(meeter)
+        }
+        Side::Host => Ok(meeter),
     }
 }
 
@@ -188,8 +175,8 @@ fn meet_frames<D: Door, T: Taker>(
     MeetEnd::ByteLimit
 }
 
-/// Reads the frame that begins at this place of the session and handles it. The place behind it, or how the
-/// session ends.
+/// Reads the frame that begins at this place of the session and handles it. Its answer is the place after the
+/// frame, or how the session ends.
 fn meet_next<D: Door, T: Taker>(
     alloc: Global,
     taker: &mut T,

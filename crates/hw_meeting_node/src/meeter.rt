@@ -36,7 +36,7 @@ pub(crate) struct Meeter {
     pub(crate) stage: Stage,
     /// What it has of each validator.
     pub(crate) mine: SummaryList,
-    /// What the other has of each validator, once it has told.
+    /// What the other has of each validator, once it said so.
     pub(crate) theirs: SummaryList,
     /// The places in the journal of what it owes the other, once that is known.
     pub(crate) due: PlaceList,
@@ -58,7 +58,7 @@ pub(crate) fn begin(alloc: Global, core: &Core) -> Result<Meeter, OutOfMemory>
     })
 }
 
-/// For how many validators a node is.
+/// How many validators the node's configuration has.
 pub(crate) fn validators(core: &Core) -> u32
     ensures count { result ≡ length core.now.config.weights }
     ensures few { result ≤ 1024 }

@@ -11,7 +11,7 @@ use hw_link::{BYTE_LIMIT, FRONT, SessionEnd, read_body};
 use hw_meeting::{FrameError, MeetingFrame, decode_meeting};
 use std::alloc::Global;
 
-/// A frame that was read, and the place in the session behind it.
+/// A frame that was read, and the place in the session after it.
 #[derive(Drop)]
 pub struct HeardMeeting {
     pub frame: MeetingFrame,
@@ -20,9 +20,9 @@ pub struct HeardMeeting {
 
 /// Reads the frame that begins at this place of the session, and no byte past it.
 ///
-/// Its errors are those of a frame that isn't there: the peer's bytes end or are no frame, or the byte
-/// limit comes; or a failed call of the door, or want of memory. It asks for no more memory than the
-/// frame's length, which is at most 1,048,576 bytes, and for what decoding takes.
+/// It fails where no frame is there: the peer's bytes end or are no frame, or the byte limit comes. It also fails
+/// by a failed call of the door, and where it is out of memory. It asks for no more memory than the frame's
+/// length, which is at most 1,048,576 bytes, and what decoding takes.
 pub fn read_meeting<D: Door>(
     alloc: Global,
     door: &mut D,
@@ -45,7 +45,7 @@ pub fn read_meeting<D: Door>(
     decoded(alloc, validators, place, body.as_slice())
 }
 
-/// The frame that begins at this place and has these bytes behind its length.
+/// The frame that begins at this place and has these bytes after its length.
 fn decoded(
     alloc: Global,
     validators: u32,

@@ -1,6 +1,6 @@
 //! What a node says at a meeting.
 
-ghost use Rattle.std.specs.Prelude.{◌≡◌, ◌<◌, [], ◌∷◌, true, length, map, filter_map, slice_get, All};
+ghost use Rattle.std.specs.Prelude.{◌≡◌, ◌<◌, [], ◌∷◌, true, length, filter_map, slice_get, All};
 ghost use Rattle.hw_types.specs.Spelling.{VertexFits};
 ghost use Rattle.hw_link.specs.{Links.{IsLinkCounted}, Sent.{Sends, OnlySends}};
 ghost use Rattle.hw_meeting.specs.Frames.{IsSaid};
@@ -26,7 +26,7 @@ pub(crate) fn say_hello<D: Door>(alloc: Global, core: &Core, door: &mut D) -> Re
     send(alloc, core, door, &MeetingFrame::Hello(*core.instance()))
 }
 
-/// Tells what the node has of each validator.
+/// Says what the node has of each validator.
 pub(crate) fn say_summary<D: Door>(
     alloc: Global,
     core: &Core,
@@ -43,7 +43,7 @@ pub(crate) fn say_summary<D: Door>(
     send(alloc, core, door, &MeetingFrame::Summary(parts))
 }
 
-/// Tells which validators are torn for the node, by what the other tells.
+/// Says which validators are torn for the node, by the other's summary.
 pub(crate) fn say_torn<D: Door>(
     alloc: Global,
     core: &Core,
@@ -74,27 +74,10 @@ pub(crate) fn say_due<D: Door>(
     ensures cause { IsLinkCounted (D.faults door.old) (D.faults door.new) result }
     ensures rest { OnlySends D.Door door.old door.new }
 {
-    send_vertices(alloc, core, door, places)?;
-    send(alloc, core, door, &MeetingFrame::Done)
-}
-
-/// Sends the vertices at these places of the journal.
-fn send_vertices<D: Door>(
-    alloc: Global,
-    core: &Core,
-    door: &mut D,
-    places: &[u64],
-) -> Result<(), SessionEnd>
-    requires within { All (λ place. place < length core.now.journal) places.now }
-    requires open { D.is_open door.old ≡ true }
-    ensures sent { Sends (sent_bytes (map frame.Vertex (filter_map (slice_get core.now.journal) places.now))) (D.sessions door.old) (D.sessions door.new) result }
-    ensures cause { IsLinkCounted (D.faults door.old) (D.faults door.new) result }
-    ensures rest { OnlySends D.Door door.old door.new }
-{
     for place in places {
         send_vertex(alloc, core, door, core.journal_at(*place))?;
     }
-    Ok(())
+    send(alloc, core, door, &MeetingFrame::Done)
 }
 
 /// Sends a vertex.
@@ -114,7 +97,7 @@ fn send_vertex<D: Door>(
     send(alloc, core, door, &MeetingFrame::Vertex(copy))
 }
 
-/// Sends a frame, which is one among the node's validators.
+/// Sends a frame, which fits the number of the node's validators.
 fn send<D: Door>(
     alloc: Global,
     core: &Core,

@@ -11,7 +11,7 @@ use hw_link::{SessionEnd, send_body};
 use hw_meeting::{MeetingFrame, encode_meeting};
 use std::alloc::Global;
 
-/// Sends a frame behind its length, where there are so many validators. After an error a first part of it
+/// Sends a frame after its length, where there are this many validators. On an error a first part of the two
 /// was sent.
 #[tactic(auto, using(crate::proofs::LengthLaws::meeting_short))]
 pub fn send_meeting<D: Door>(

@@ -12,9 +12,9 @@ use hw_types::{Cause, Receipt, Vertex};
 pub enum TakeFault {
     /// The core refuses it by this cause.
     Refused(Cause),
-    /// The vertex stands in the journal, but couldn't be stored: the node has to be given up.
+    /// The vertex is in the journal, but couldn't be stored: the node has to be given up.
     AppendFault,
-    /// There was no memory. Where it was wanting for storing the vertex, the same holds as after `AppendFault`.
+    /// It was out of memory. If that was while storing the vertex, the same holds as after `AppendFault`.
     OutOfMemory,
 }
 
@@ -26,15 +26,14 @@ pub trait Taker {
     /// The verdict that it gives each vertex.
     ghost verdict: { Self → Vertex → Bool };
 
-    /// What it was, a vertex, the answer to it, and what it is then: all that becomes of it by a vertex, where it
-    /// has more than a core and verdicts.
+    /// What it was, a vertex, the answer to it, and what it is then. This is all that becomes of it by a vertex,
+    /// where it has more than a core and verdicts.
     ghost steps: { Self → Vertex → Result Receipt TakeFault → Self → Type 0 };
 
     /// How many vertices it couldn't store. The count stops at the end of a `u64`.
     ghost faults: { Self → ℕ };
 
-    /// The names of the references that it holds. They stay, so that who lent it something knows what became of
-    /// that.
+    /// The names of the references that it holds. They stay, so a lender knows what became of what it lent.
     ghost holds: { Self → List ℕ };
 
     fn core(&self) -> &Core

@@ -2,7 +2,7 @@ use Rattle.std.proofs.Common.{◌≡◌, true, take, Ok}
 use Rattle.hw_link.specs.Sent.{Sends}
 use Rattle.hw_meeting_node.specs.Frames.{sent_bytes}
 use Rattle.hw_meeting_node.proofs.SayLaws.{sent_at}
-use Rattle.hw_meeting_node.proofs.say.send_vertices.Given as goal
+use Rattle.hw_meeting_node.proofs.say.say_due.Given as goal
 
 abbrev pub invariant-loop-place : goal.invariant-loop-place
 invariant-loop-place g l =
