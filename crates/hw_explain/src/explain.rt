@@ -9,7 +9,7 @@ use hw_types::{Bytes, OutOfMemory};
 use std::alloc::Global;
 
 /// The line of the decided block at this place, with the committee and the starts of its greatest summit. None
-/// exactly where the last vertex of the journal didn't decide it: there is no such block, or the journal is
+/// exactly when the last vertex of the journal didn't decide it: there is no such block, or the journal is
 /// longer now than its `at`.
 pub fn explain_line(
     alloc: Global,
