@@ -49,8 +49,8 @@ pub record IsMade (core : CoreState) (index : ℕ) (made : Certificate) : Type 0
   pub are : AreVerticesOf core index decision made.vertices
   pub room : length made.vertices ≤ core.config.max_records
 
--- When each answer is given. NotNow is: the faulty weigh more than the threshold, or the decided block of that place has
--- no summit now. Each excludes the others.
+-- When each answer is given. NotNow is: the faulty weigh more than the threshold, or the decided block of that place
+-- has no summit now. Each excludes the others.
 abbrev pub IsCertifiedAs : CoreState → ℕ → Certified → Type 0
 IsCertifiedAs core index NotNow = (exceeded_in core ≢ None) ⊎ (HasSummitNow core index → ⊥)
 IsCertifiedAs core index (TooLong count) = IsTooLong core index count
