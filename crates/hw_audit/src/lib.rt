@@ -22,4 +22,4 @@ mod verdict;
 pub use hw_safety::Verdict;
 pub use hw_types::Culprit;
 pub use nodes::{AuditError, audit};
-pub use text::{CONFLICT, audit_text};
+pub use text::{AGREE, CONFLICT, audit_text, status_of};
