@@ -6,7 +6,6 @@ use Rattle.hw_types.specs.Journal.{Setting}
 use Rattle.hw_types.specs.Real.{CoreState, setting_of}
 use Rattle.hw_safety.specs.Decided.{decisions_of}
 use Rattle.hw_safety.specs.declared.verdict.Verdict.{Verdict}
-use Rattle.hw_safety.specs.declared.verdict.Verdict.TheVariants as verdict
 use Rattle.hw_safety.specs.Verdicts.{chain_of}
 use Rattle.hw_audit.specs.declared.chains.Parting.{Parting}
 use Rattle.hw_audit.specs.Clashes.{UnitPair}
