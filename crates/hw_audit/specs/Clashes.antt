@@ -48,6 +48,6 @@ abbrev pub unlike : Option KnownUnits → WireUnit → Option WireUnit
 unlike None u = None
 unlike (Some k) u = if unit_eq k.first u then k.other else Some k.first
 
--- the table knows of each name what these units tell
+-- the table has for each name what these units say of it
 abbrev pub AreKnown : List (Digest × KnownUnits) → List HeldUnit → Type 0
 AreKnown entries units = (d : Digest) → lookup (digest_eq d) entries ≡ known_after d None units

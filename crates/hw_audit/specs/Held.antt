@@ -1,4 +1,4 @@
--- The units that stand in a journal, as an audit reads them.
+-- The units that are in a journal, as an audit reads them.
 use Rattle.std.specs.Prelude.{Bool, true, ◌&&◌, List, [], ◌∷◌}
 use Rattle.std.specs.List.{list_any, flat_map}
 use Rattle.hw_types.specs.declared.unit.Digest.{Digest}

@@ -20,7 +20,7 @@ use Rattle.hw_audit.specs.First.{ShowsFirstClash}
 abbrev pub units_of : Config → List Vertex → List HeldUnit
 units_of config journal = held_units (settled_of config (received_of (setting_of config) journal)) journal
 
--- the weights, the units of both journals, the left ones first and so many, and the two chains
+-- the weights, the units of both journals, the left ones first, how many those are, and the two chains
 pub record ReadPair : Type 0 where
   pub weights : List ℕ
   pub units : List HeldUnit

@@ -10,6 +10,12 @@ use Rattle.hw_text.specs.Lines.{line_feed}
 use Rattle.hw_safety.specs.declared.verdict.Verdict.{Verdict}
 use Rattle.hw_safety.specs.declared.verdict.Verdict.TheVariants as verdict
 
+-- the status with which a program ends whose audit reports this verdict
+abbrev pub status_of : Verdict → ℕ
+status_of (verdict.Agree common) = 0
+status_of (verdict.Conflict height left right culprits weight) = 3
+status_of (verdict.Clash left right) = 9
+
 -- the name of the unit that the bytes spell with its signature: the digest of all but the last 32 bytes
 abbrev pub name_in : List ℕ → Digest
 name_in bytes = record { 0 = sha256 (take (length bytes - 32) bytes) }

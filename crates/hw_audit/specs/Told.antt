@@ -1,4 +1,4 @@
--- What an audit of two journals tells.
+-- What an audit of two journals reports.
 use Rattle.std.specs.Prelude.{ℕ, List, [], ◌++◌, codes, Option, Some, None}
 use Rattle.std.specs.List.{flat_map}
 use Rattle.hw_types.specs.declared.unit.Vertex.{Vertex}

@@ -10,7 +10,7 @@ use Rattle.hw_safety.specs.Pairs.{is_culprit, lower_of}
 use Rattle.hw_audit.specs.declared.twins.LanePlace.{LanePlace}
 use Rattle.hw_audit.specs.Held.{HeldUnit, node_held}
 
--- where a unit stands
+-- the place of a unit
 abbrev pub place_of : HeldUnit → LanePlace
 place_of h = record { creator = h.signed.unit.creator; seq = h.signed.unit.seq }
 

@@ -1,7 +1,7 @@
 //! What the journals of two nodes say of each other.
 //!
 //! Where neither of the two chains of decided blocks begins the other, validators that weigh more than
-//! the threshold equivocated, and the audit names all who did, each with two signed units that show it.
+//! the threshold equivocated. The audit names all who did, each with two signed units that show it.
 //! A unit of the one journal and a unit of the other that differ and have one digest come first: they
 //! are a clash, and nothing else is said.
 //!
@@ -22,4 +22,4 @@ mod verdict;
 pub use hw_safety::Verdict;
 pub use hw_types::Culprit;
 pub use nodes::{AuditError, audit};
-pub use text::{CONFLICT, audit_text};
+pub use text::{AGREE, CONFLICT, audit_text, status_of};

@@ -20,7 +20,7 @@ use std::alloc::Global;
 pub enum AuditError {
     /// They are of different configurations.
     Instances,
-    /// There was no memory.
+    /// Out of memory.
     OutOfMemory,
 }
 
@@ -39,7 +39,7 @@ impl From<OutOfMemory> for AuditError {
 /// conflict names all who equivocated, each with its first two units at its least number, and they weigh
 /// more than the threshold.
 ///
-/// Instances is answered exactly where the configurations differ.
+/// Instances is answered exactly when the configurations differ.
 pub fn audit(alloc: Global, left: &Core, right: &Core) -> Result<Verdict, AuditError>
     ensures instances { (left.now.config ≢ right.now.config) ↔ (result ≡ Err AuditErrors.Instances) }
     // What is answered otherwise is the verdict on the two, and a clash that is shown is the first one.

@@ -3,7 +3,7 @@
 ghost use Rattle.std.specs.{Prelude.{◌≡◌, ◌++◌, IfOk, OnOk}, List.{flat_map}};
 ghost use Rattle.hex.specs.Hex.{encode_lower};
 ghost use Rattle.hw_text.specs.Text.{digest_text};
-ghost use Rattle.hw_audit.specs.Text.{name_in, culprit_line, agree_line, height_words, block_words, conflict_line, weight_line, clash_lines, audit_text};
+ghost use Rattle.hw_audit.specs.Text.{status_of, name_in, culprit_line, agree_line, height_words, block_words, conflict_line, weight_line, clash_lines, audit_text};
 
 use hw_codec::SIGNATURE_LENGTH;
 use hw_safety::Verdict;
@@ -12,8 +12,26 @@ use hw_types::{Bytes, Config, Culprit, Digest, OutOfMemory};
 use sha2::{Digest as _, Sha256};
 use std::alloc::Global;
 
+/// The status with which a program ends whose audit reports that the nodes agree.
+pub const AGREE: u8 = 0;
+
 /// The status with which a program ends whose audit reports a conflict.
 pub const CONFLICT: u8 = 3;
+
+/// The status with which a program ends whose audit reports a clash.
+const CLASH: u8 = 9;
+
+/// The status with which a program ends whose audit reports this verdict: 0 where the nodes agree, 3 where they are
+/// in conflict, and 9 where two different units have one digest.
+pub fn status_of(verdict: &Verdict) -> u8
+    ensures { result ≡ status_of verdict.now }
+{
+    match verdict {
+        Verdict::Agree { .. } => AGREE,
+        Verdict::Conflict { .. } => CONFLICT,
+        Verdict::Clash { .. } => CLASH,
+    }
+}
 
 /// What an audit of two nodes of this configuration prints.
 pub fn audit_text(alloc: Global, verdict: &Verdict, config: &Config) -> Result<Bytes, OutOfMemory>

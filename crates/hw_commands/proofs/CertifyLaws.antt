@@ -15,7 +15,7 @@ use Rattle.hw_types.specs.Real.{CoreState}
 use Rattle.hw_light.specs.Spelling.{CertificateFits, SpellsCertificate, certificate_bytes}
 use Rattle.hw_light.specs.declared.asked.Asked.{Asked}
 use Rattle.hw_light.specs.declared.asked.Asked.TheVariants as asked
-use Rattle.hw_light.specs.Asked.{IsAskedOf, IfAnswered, Told, NoDecision, NoStanding, NoLength, HasCertificate, told_in, told_of}
+use Rattle.hw_light.specs.Asked.{IsAskedOf, IfAnswered, Outcome, NoDecision, NoStanding, NoLength, HasCertificate, told_in, told_of}
 use Rattle.hw_commands.specs.declared.ended.Ended.{Ended}
 use Rattle.hw_commands.specs.declared.ended.RunFault.{RunFault}
 use Rattle.hw_commands.specs.declared.ended.RunFault.TheVariants.{Read, Append, OutOfMemory}
@@ -115,7 +115,7 @@ there_not_done name (Err Read) said zero = omega (arith, zero)
 there_not_done name (Err Append) said zero = omega (arith, zero)
 there_not_done name (Err OutOfMemory) said zero = omega (arith, zero)
 
-pub told_end : (told : Told) (e : Ended) → e ≡ told_ended told → IsCertifyEnd e.status
+pub told_end : (told : Outcome) (e : Ended) → e ≡ told_ended told → IsCertifyEnd e.status
 told_end (HasCertificate count) e is = inr (inl (ap (λ (x : Ended). x.status) is))
 told_end NoDecision e is = inl (ap (λ (x : Ended). x.status) is)
 told_end NoStanding e is = inl (ap (λ (x : Ended). x.status) is)
@@ -127,7 +127,7 @@ module _ (new : Word) (before now : Held) where
   kept_so : (IsSo : Certificate → Type 0) (status : ℕ) → status ≢ 0 → SameFiles before now → IsWritten IsSo new status before now
   kept_so IsSo status other same = record { done = λ zero. absurd (other zero); unwritten = λ a b c. same; cut = inl (same new); others = λ name differs. same name }
 
-  not_done : (r : Result Ended RunFault) (told : Told) → IfOk r (λ e. e ≡ told_ended told) → IfErr r (λ f. f ≡ OutOfMemory) → (told_ended told).status ≡ 10 → status_of r ≢ 0
+  not_done : (r : Result Ended RunFault) (told : Outcome) → IfOk r (λ e. e ≡ told_ended told) → IfErr r (λ f. f ≡ OutOfMemory) → (told_ended told).status ≡ 10 → status_of r ≢ 0
   not_done (Ok e) told said want ten zero = let is : e.status ≡ 10 = ap (λ (x : Ended). x.status) said ∙ ten in let also : e.status ≡ 0 = zero in omega arith
   not_done (Err f) told said want ten zero = let is : status_of (Err f) ≡ 7 = ap (λ (x : RunFault). status_of (Err x)) want in omega (arith, is, zero)
 

@@ -34,7 +34,7 @@ use Rattle.hw_commands.specs.Texts.{input_ended, limit_ended, clash_ended, read_
 use Rattle.hw_commands.specs.Audited.{chains_ended, clash_or, audit_ended}
 use Rattle.hw_commands.specs.Told.{told_ended}
 use Rattle.hw_commands.specs.Laws.{LogIsAnswered, CheckIsAnswered}
-use Rattle.hw_light.specs.Asked.{Told, NoDecision, NoStanding, NoLength, HasCertificate, told_of}
+use Rattle.hw_light.specs.Asked.{Outcome, NoDecision, NoStanding, NoLength, HasCertificate, told_of}
 use Rattle.hw_audit.specs.declared.chains.Parting.{Parting}
 use Rattle.hw_audit.specs.Clashes.{UnitPair}
 use Rattle.hw_audit.specs.First.{first_of}
@@ -272,7 +272,7 @@ checked_conflict words held file keys against (Err f) asked told alike = tt
 
 -- ---- what is answered
 
-told_status : (told : Told) → ((told_ended told).status ≡ 0) ⊎ ((told_ended told).status ≡ 10)
+told_status : (told : Outcome) → ((told_ended told).status ≡ 0) ⊎ ((told_ended told).status ≡ 10)
 told_status (HasCertificate count) = inl refl
 told_status NoDecision = inr refl
 told_status NoStanding = inr refl

@@ -6,13 +6,12 @@ use Rattle.hw_types.specs.Journal.{Setting}
 use Rattle.hw_types.specs.Real.{CoreState, setting_of}
 use Rattle.hw_safety.specs.Decided.{decisions_of}
 use Rattle.hw_safety.specs.declared.verdict.Verdict.{Verdict}
-use Rattle.hw_safety.specs.declared.verdict.Verdict.TheVariants as verdict
 use Rattle.hw_safety.specs.Verdicts.{chain_of}
 use Rattle.hw_audit.specs.declared.chains.Parting.{Parting}
 use Rattle.hw_audit.specs.Clashes.{UnitPair}
 use Rattle.hw_audit.specs.First.{first_of, ShowsFirstClash}
 use Rattle.hw_audit.specs.Chains.{parting_of}
-use Rattle.hw_audit.specs.Text.{agree_line, audit_text}
+use Rattle.hw_audit.specs.Text.{status_of as verdict_status, agree_line, audit_text}
 use Rattle.hw_audit.specs.Told.{conflict_text}
 use Rattle.hw_audit.specs.Audit.{IsVerdictOn, IsWeighty}
 use Rattle.hw_commands.specs.declared.ended.Ended.{Ended}
@@ -38,9 +37,7 @@ audit_ended s left right = clash_or (first_of s left right) (chains_ended s left
 
 -- the status of a verdict
 abbrev pub status_of : Verdict → ℕ
-status_of (verdict.Agree common) = 0
-status_of (verdict.Conflict height left right culprits weight) = 3
-status_of (verdict.Clash left right) = 9
+status_of v = verdict_status v
 
 -- a verdict, with this threshold
 abbrev pub verdict_ended : ℕ → Verdict → Ended

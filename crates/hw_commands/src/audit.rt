@@ -12,13 +12,13 @@ ghost use Rattle.hw_commands.specs.Faults.{HasReadFault, IsReadCounted, IsReadEn
 ghost use Rattle.hw_commands.specs.Due.{FailsDue};
 ghost use Rattle.hw_commands.specs.Program.{ended, audit_said, or_parted, audited_with};
 ghost use Rattle.hw_commands.specs.Shown.{IsAlike};
-ghost use Rattle.hw_commands.specs.Audited.{status_of, verdict_ended, TellsVerdict};
+ghost use Rattle.hw_commands.specs.Audited.{verdict_ended, TellsVerdict};
 ghost use Rattle.hw_commands.specs.Conflict.{IsAudited, IsConflictOf};
 ghost use Rattle.hw_light.specs.Checked.{IsCertified};
 
-use crate::ended::{CLASH, CONFLICT, DONE, Ended, Ending};
+use crate::ended::{Ended, Ending};
 use crate::faults::{other_config, stopped};
-use hw_audit::{AuditError, Verdict, audit, audit_text};
+use hw_audit::{AuditError, Verdict, audit, audit_text, status_of};
 use hw_codec::config_is_in_range;
 use hw_core::Core;
 use hw_io::Files;
@@ -164,15 +164,4 @@ fn verdict_ended(alloc: Global, verdict: &Verdict, config: &Config) -> Result<En
         status: status_of(verdict),
         text: audit_text(alloc, verdict, config)?,
     })
-}
-
-/// The status of an audit that has this verdict.
-fn status_of(verdict: &Verdict) -> u8
-    ensures { result ≡ status_of verdict.now }
-{
-    match verdict {
-        Verdict::Agree { .. } => DONE,
-        Verdict::Conflict { .. } => CONFLICT,
-        Verdict::Clash { .. } => CLASH,
-    }
 }

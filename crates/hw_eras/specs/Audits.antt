@@ -7,13 +7,12 @@ use Rattle.hw_types.specs.Journal.{Setting}
 use Rattle.hw_types.specs.Real.{CoreState, setting_of}
 use Rattle.hw_safety.specs.Decided.{decisions_of}
 use Rattle.hw_safety.specs.declared.verdict.Verdict.{Verdict}
-use Rattle.hw_safety.specs.declared.verdict.Verdict.TheVariants as verdict
 use Rattle.hw_safety.specs.Verdicts.{chain_of}
 use Rattle.hw_audit.specs.declared.chains.Parting.{Parting}
 use Rattle.hw_audit.specs.Clashes.{UnitPair}
 use Rattle.hw_audit.specs.First.{first_of}
 use Rattle.hw_audit.specs.Chains.{parting_of}
-use Rattle.hw_audit.specs.Text.{agree_line, clash_lines, audit_text}
+use Rattle.hw_audit.specs.Text.{status_of as verdict_status, agree_line, clash_lines, audit_text}
 use Rattle.hw_audit.specs.Told.{conflict_text}
 use Rattle.hw_eras.specs.declared.verdict.EraVerdict.{EraVerdict}
 use Rattle.hw_eras.specs.declared.verdict.EraVerdict.TheVariants as eras
@@ -72,9 +71,7 @@ logs_audited held left right = eras_of held None left >>= λ ls. audited_against
 
 -- the status of the verdict on one era
 abbrev pub status_of : Verdict → ℕ
-status_of (verdict.Agree common) = 0
-status_of (verdict.Conflict height left right culprits weight) = 3
-status_of (verdict.Clash left right) = 9
+status_of v = verdict_status v
 
 -- the threshold of an era
 abbrev pub threshold_in : List CoreState → ℕ → Option ℕ

@@ -4,7 +4,7 @@ ghost use Rattle.std.specs.Prelude.{◌≡◌, ◌<◌, ◌≤◌, ◌++◌, len
 ghost use Rattle.hw_io.specs.Files.{SameFiles};
 ghost use Rattle.hw_eras.specs.Nodes.{first_config};
 ghost use Rattle.hw_eras.specs.declared.verdict.EraVerdict.TheVariants as EraVerdicts;
-ghost use Rattle.hw_eras.specs.Audits.{agreed, status_of, TellsVerdict, logs_audited, IsAudit, IsAuditOfLogs, IsAuditEnd};
+ghost use Rattle.hw_eras.specs.Audits.{agreed, TellsVerdict, logs_audited, IsAudit, IsAuditOfLogs, IsAuditEnd};
 ghost use Rattle.hw_eras.specs.Stops.{Says, IsOfLogs, HasEraCause, IsEraAbout};
 ghost use Rattle.hw_eras.specs.Turns.{HasTurnIn, StopsAt};
 
@@ -12,21 +12,12 @@ use crate::filled::Filled;
 use crate::reports::put_era;
 use crate::stop::EraFault;
 use crate::{AuditError, EraVerdict, Eras, audit_eras};
-use hw_audit::{Verdict, audit_text};
+use hw_audit::{AGREE, Verdict, audit_text, status_of};
 use hw_core::Core;
 use hw_io::Files;
 use hw_text::{end_line, put_numbered};
 use hw_types::{Bytes, OutOfMemory};
 use std::alloc::Global;
-
-/// The eras agree.
-const AGREE: u8 = 0;
-
-/// The eras are in conflict.
-const CONFLICT: u8 = 3;
-
-/// Two different units have one digest.
-const CLASH: u8 = 9;
 
 /// What an audit of the eras of two nodes comes to.
 #[derive(Drop)]
@@ -134,15 +125,4 @@ fn differing(
         status: status_of(verdict),
         text,
     })
-}
-
-/// The status of the verdict on an era.
-fn status_of(verdict: &Verdict) -> u8
-    ensures { result ≡ status_of verdict.now }
-{
-    match verdict {
-        Verdict::Agree { .. } => AGREE,
-        Verdict::Conflict { .. } => CONFLICT,
-        Verdict::Clash { .. } => CLASH,
-    }
 }

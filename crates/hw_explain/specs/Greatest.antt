@@ -28,7 +28,7 @@ member_text v starts = number_text v ++ codes ":" ++ join_with_byte 44 (map numb
 abbrev pub member_with : Committees → ℕ → ℕ → List ℕ
 member_with c level v = member_text v (map (λ j. c.start j v) (range_with_len 0 (level + 1)))
 
--- the members of the committee of a level among so many validators, in rising order, each with its starts
+-- the members of the committee of a level among this many validators, in rising order, each with its starts
 abbrev pub members_with : Committees → ℕ → ℕ → List (List ℕ)
 members_with c validators level = map (member_with c level) (filter (c.member level) (range_with_len 0 validators))
 

@@ -77,7 +77,7 @@ fork_in config received = option_map (λ b. b.digest) (fork_choice config receiv
 abbrev pub exceeded_in : Config → Received → Option ℕ
 exceeded_in config received = if nat_lt config.ftt (faulty_weight config received) then Some (faulty_weight config received) else None
 
--- The report on a journal with these decisions, after so many refused deliveries and repeats.
+-- The report on a journal with these decisions, after this many refused deliveries and repeats.
 unfoldable pub report_with : Setting → List Vertex → List Decision → ℕ → ℕ → List ℕ
 report_with s journal decisions refused repeats =
     let received = received_of s journal in

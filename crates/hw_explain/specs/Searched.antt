@@ -40,7 +40,7 @@ start_or_zero search level v = or_zero (start_of search level v)
 abbrev pub starts_in : Search → ℕ → ℕ → List ℕ
 starts_in search level v = map (λ j. start_or_zero search j v) (range_with_len 0 (level + 1))
 
--- the members of the committee of a level among so many validators
+-- the members of the committee of a level among this many validators
 abbrev pub members_in : Search → ℕ → ℕ → List ℕ
 members_in search level validators = filter (λ v. is_some (start_of search level v)) (range_with_len 0 validators)
 
@@ -48,6 +48,6 @@ members_in search level validators = filter (λ v. is_some (start_of search leve
 abbrev pub words_in : Search → ℕ → ℕ → List (List ℕ)
 words_in search level validators = codes "committee" ∷ map (λ v. member_text v (starts_in search level v)) (members_in search level validators)
 
--- a member behind a space, and nothing for another validator
+-- a member after a space, and nothing for another validator
 abbrev pub part_in : Search → ℕ → ℕ → List ℕ
 part_in search level v = cond (is_some (start_of search level v)) (spaced (member_text v (starts_in search level v))) []

@@ -12,7 +12,7 @@ use Rattle.hw_explain.specs.Explain.{line_of_decision}
 abbrev pub line_in : CoreState → Decision → List ℕ
 line_in c d = line_of_decision (setting_of c.config) c.journal d
 
--- the text has the lines of so many of the node's decisions
+-- the text has the lines of the first decisions of the node, this many
 pub record HasLines (told : DecisionLines) (c : CoreState) (count : ℕ) : Type 0 where
   pub lines : told.text ≡ flat_map (line_in c) (take count (decided_in c))
 
@@ -21,7 +21,7 @@ pub record HasTold (told : DecisionLines) (c : CoreState) : Type 0 where
   pub count : told.count ≡ length (decided_in c)
   pub lines : HasLines told c told.count
 
--- what it told is of the node as it is, or as it was before the last vertex
+-- its lines are of the node as it is, or as it was before the last vertex
 pub record IsBehind (told : DecisionLines) (c : CoreState) : Type 0 where
   pub before : CoreState
   pub told_before : HasTold told before

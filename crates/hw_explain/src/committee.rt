@@ -63,8 +63,5 @@ fn put_member(
 fn start(search: &Horizons, level: u32, validator: u32) -> u64
     ensures { result ≡ start_or_zero search.now level validator }
 {
-    match search.start(level, validator) {
-        Some(start) => start,
-        None => 0,
-    }
+    search.start(level, validator).unwrap_or(0)
 }

@@ -3,13 +3,13 @@
 ghost use Rattle.std.specs.Prelude.{◌≡◌, ◌<◌, length, IfOk};
 ghost use Rattle.hw_explain.specs.Explain.{line_now};
 
-use crate::summit::put_line;
+use crate::summit::line_of;
 use hw_core::Core;
 use hw_types::{Bytes, OutOfMemory};
 use std::alloc::Global;
 
 /// The line of the decided block at this place, with the committee and the starts of its greatest summit. None
-/// exactly where the last vertex of the journal didn't decide it: there is no such block, or the journal is
+/// exactly when the last vertex of the journal didn't decide it: there is no such block, or the journal is
 /// longer now than its `at`.
 pub fn explain_line(
     alloc: Global,
@@ -33,7 +33,5 @@ fn line_at(alloc: Global, core: &Core, index: u64) -> Result<Option<Bytes>, OutO
     if decision.at != core.journal_count() {
         return Ok(None);
     }
-    let mut text = Bytes::new(alloc);
-    put_line(alloc, &mut text, core, decision)?;
-    Ok(Some(text))
+    Ok(Some(line_of(alloc, core, decision)?))
 }

@@ -1,4 +1,4 @@
-//! What a reader may believe in place of what is worked out.
+//! What a reader may rely on in place of what is worked out.
 //!
 //! A journal has one list of decided blocks (`decisions_are_one`, of hw_types), and `decisions_of` is it
 //! (`safety_decides`, of hw_safety). So each text is given by the definitions of decided blocks and of greatest
@@ -12,7 +12,7 @@ pub fn report_is_of_decisions()
 {}
 
 /// The committees that are explained of a journal are those of the greatest summit of each decided block at its
-/// moment, and each decided block has one.
+/// moment. Each decided block has one.
 pub fn committees_are_greatest()
     ensures greatest { ExplainedIsOfGreatest }
     ensures there { DecidedHaveGreatest }

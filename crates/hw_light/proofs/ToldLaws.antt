@@ -40,7 +40,7 @@ use Rattle.hw_light.specs.Certify.{AreVerticesOf}
 use Rattle.hw_light.proofs.DeliveredLaws.{found, found_is}
 use Rattle.hw_light.specs.declared.asked.Asked.{Asked}
 use Rattle.hw_light.specs.declared.asked.Asked.TheVariants as asked
-use Rattle.hw_light.specs.Asked.{IsDecisionOf, HasNoDecision, IsAskedOf, Told, NoDecision, NoStanding, NoLength, HasCertificate, told_in, decided_block, standing_block, told_count, told_standing, told_decision, told_of}
+use Rattle.hw_light.specs.Asked.{IsDecisionOf, HasNoDecision, IsAskedOf, Outcome, NoDecision, NoStanding, NoLength, HasCertificate, told_in, decided_block, standing_block, told_count, told_standing, told_decision, told_of}
 use Rattle.hw_light.proofs.FindLaws.{find_first, find_none}
 
 -- ---- the decided block
@@ -249,14 +249,14 @@ module _ (core : CoreState) (block : Digest) where
   -- of the decided block
   by_decision : (index : ℕ) (told : IsDecisionOf core block index) → told_of core block ≡ told_decision core told.decision (exceeded_in core)
   unfolding told_of
-  by_decision index told = ap (λ (o : Option Decision). elim o as (λ z. Told) [ None ↦ NoDecision | Some d ↦ told_decision core d (exceeded_in core) ]) (decided_is core block index told)
+  by_decision index told = ap (λ (o : Option Decision). elim o as (λ z. Outcome) [ None ↦ NoDecision | Some d ↦ told_decision core d (exceeded_in core) ]) (decided_is core block index told)
 
   one_decision : (index : ℕ) (told : IsDecisionOf core block index) (d : Decision) → slice_get (decided_in core) index ≡ Some d → told.decision ≡ d
   one_decision index told d there = let both : Some told.decision ≡ Some d = sym told.at ∙ there in cc
 
   pub told_is : (a : Asked) → IsAskedOf core block a → told_in a ≡ told_of core block
   unfolding told_of
-  told_is asked.NoDecision none = sym (ap (λ (o : Option Decision). elim o as (λ z. Told) [ None ↦ NoDecision | Some d ↦ told_decision core d (exceeded_in core) ]) (decided_none core block none))
+  told_is asked.NoDecision none = sym (ap (λ (o : Option Decision). elim o as (λ z. Outcome) [ None ↦ NoDecision | Some d ↦ told_decision core d (exceeded_in core) ]) (decided_none core block none))
   told_is (asked.Answered NotNow) (index, told, why) = not_now core told.decision index told.at why ∙ sym (by_decision index told)
   told_is (asked.Answered (TooLong count)) (index, told, long) =
       let d = one_decision index told long.decision long.are.greatest.is.at in

@@ -39,17 +39,18 @@ abbrev pub IfAnswered : (Certificate → Type 0) → Asked → Type 0
 IfAnswered P asked.NoDecision = Unit {0}
 IfAnswered P (asked.Answered certified) = IfMade P certified
 
--- ---- what is told of it
+-- ---- what is reported of it
 
--- no decided block has the digest; it doesn't stand now; its certificate would have so many vertices, too many; or has so many
-pub data Told : Type 0 where
-  NoDecision : Told
-  NoStanding : Told
-  NoLength : ℕ → Told
-  HasCertificate : ℕ → Told
+-- no decided block has the digest; or the block has no summit now; or its certificate would have this many vertices,
+-- too many; or it has this many
+pub data Outcome : Type 0 where
+  NoDecision : Outcome
+  NoStanding : Outcome
+  NoLength : ℕ → Outcome
+  HasCertificate : ℕ → Outcome
 
 -- of an answer
-abbrev pub told_in : Asked → Told
+abbrev pub told_in : Asked → Outcome
 told_in asked.NoDecision = NoDecision
 told_in (asked.Answered NotNow) = NoStanding
 told_in (asked.Answered (TooLong count)) = NoLength count
@@ -70,20 +71,20 @@ abbrev pub units_under : CoreState → ℕ → Node → List Node
 units_under core quorum block = let weights = core.config.weights in let units = settled_in core in let panorama = panorama_in core in
     filter (is_under units panorama (pruned_committees weights units panorama block quorum)) units
 
--- so many vertices, no more than a journal may have
-abbrev pub told_count : Config → ℕ → Told
+-- this many vertices, no more than a journal may have
+abbrev pub told_count : Config → ℕ → Outcome
 told_count config count = if nat_lt config.max_records count then NoLength count else HasCertificate count
 
--- of a decided block, by the unit that stands
-abbrev pub told_standing : CoreState → Decision → Option Node → Told
+-- of a decided block, by the unit that has a summit now
+abbrev pub told_standing : CoreState → Decision → Option Node → Outcome
 told_standing core d None = NoStanding
 told_standing core d (Some block) = told_count core.config (length (vertices_for core (units_under core d.quorum block)))
 
 -- of a decided block, where the faulty don't weigh too much
-abbrev pub told_decision : CoreState → Decision → Option ℕ → Told
+abbrev pub told_decision : CoreState → Decision → Option ℕ → Outcome
 told_decision core d None = told_standing core d (standing_block core d)
 told_decision core d (Some weight) = NoStanding
 
--- What is told where a node is asked for the certificate of the block of this digest.
-unfoldable pub told_of : CoreState → Digest → Told
+-- What is reported when a node is asked for the certificate of the block of this digest.
+unfoldable pub told_of : CoreState → Digest → Outcome
 told_of core block = elim (decided_block core block) [ None ↦ NoDecision | Some d ↦ told_decision core d (exceeded_in core) ]

@@ -33,7 +33,7 @@ pub record AreVerticesOf (core : CoreState) (index : ℕ) (decision : Decision) 
   pub order_is : IsSettlingOrder core order
   pub vertices_are : vertices ≡ vertices_for core (filter (is_under (settled_in core) (panorama_in core) committees) order)
 
--- there are so many of them, more than a journal may have
+-- there are this many of them, more than a journal may have
 pub record IsTooLong (core : CoreState) (index count : ℕ) : Type 0 where
   pub decision : Decision
   pub vertices : List Vertex
@@ -49,8 +49,8 @@ pub record IsMade (core : CoreState) (index : ℕ) (made : Certificate) : Type 0
   pub are : AreVerticesOf core index decision made.vertices
   pub room : length made.vertices ≤ core.config.max_records
 
--- When each answer is given. NotNow is: the faulty weigh more than the threshold, or the decided block of that place has no summit
--- now. Each excludes the others.
+-- When each answer is given. NotNow is: the faulty weigh more than the threshold, or the decided block of that place
+-- has no summit now. Each excludes the others.
 abbrev pub IsCertifiedAs : CoreState → ℕ → Certified → Type 0
 IsCertifiedAs core index NotNow = (exceeded_in core ≢ None) ⊎ (HasSummitNow core index → ⊥)
 IsCertifiedAs core index (TooLong count) = IsTooLong core index count

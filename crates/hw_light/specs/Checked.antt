@@ -107,7 +107,8 @@ IsTakenAs taken core (Some (BadConfig fault)) = ⊥
 IsTakenAs taken core (Some (Exceeded weight)) = ⊥
 IsTakenAs taken core (Some Unstood) = ⊥
 
--- what a node that took all vertices is answered: the faulty weigh too much, or else the block stands or it doesn't
+-- what a node that took all vertices is answered: the faulty weigh too much, or else the block has a summit or it
+-- doesn't
 abbrev pub IsNodeFault : CoreState → Digest → Option CheckFault → Type 0
 IsNodeFault core block None = (exceeded_in core ≡ None) × BlockStands core block
 IsNodeFault core block (Some (Exceeded weight)) = exceeded_in core ≡ Some weight

@@ -26,11 +26,11 @@ verdicts_by keys vertices = map (verdict_of keys) vertices
 
 -- ---- worked out
 
--- a settled unit of this name stands at some level
+-- a settled unit of this name has a summit at some level
 abbrev pub is_standing : CoreState → Digest → Bool
 is_standing core block = list_any (λ (x : Node). digest_eq x.digest block && list_any (λ level. stands core.config (received_in core) x level (quorum_at core.config level)) (range_with_len 1 core.config.levels)) (settled_in core)
 
--- what is wrong with a node that took all vertices, where the faulty weigh so much, or not too much
+-- what is wrong with a node that took all vertices, where the faulty weigh this much, or not too much
 abbrev pub fault_by : CoreState → Digest → Option ℕ → Option CheckFault
 fault_by core block (Some weight) = Some (Exceeded weight)
 fault_by core block None = if is_standing core block then None else Some Unstood
@@ -56,7 +56,7 @@ abbrev pub height_or_zero : Option Decision → ℕ
 height_or_zero None = 0
 height_or_zero (Some d) = d.height
 
--- the line that tells the same, worked out
+-- the line that says the same, worked out
 abbrev pub checked_line : Digest → Checked → List ℕ
 checked_line block (Yes core) = yes_line block (height_or_zero (decided_block core block))
 checked_line block (No fault) = fault_line fault

@@ -1,4 +1,4 @@
--- The vertices that make a decided block stand.
+-- The vertices that give a decided block a summit.
 -- Source: Highway; the order of the vertices is ours.
 use Rattle.std.specs.Prelude.{◌≡◌, true, false, Bool, ◌&&◌, ℕ, List, [], ◌∷◌, ◌++◌, length, filter}
 use Rattle.std.specs.List.{list_any, flat_map}

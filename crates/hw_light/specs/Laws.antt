@@ -15,8 +15,8 @@ use Rattle.hw_light.specs.Checked.{IsCertified}
 abbrev pub YesIsDecided : Type 0
 YesIsDecided = (c : Certificate) (core : CoreState) → IsCertified c core → Any (λ (d : Decision). d.block ≡ c.block) (decided_in core)
 
--- Where a node of that configuration, whose evidence are pairs, decided another block of that height, the verdict on the two is a
--- conflict whose culprits weigh more than the threshold, or a clash.
+-- Let a node of that configuration, whose evidence are pairs, have decided another block of that height. Then the
+-- verdict on the two is a conflict whose culprits weigh more than the threshold, or a clash.
 abbrev pub YesIsAccountable : Type 0
 YesIsAccountable = (c : Certificate) (core other : CoreState) (e : Decision) (v : Verdict) → IsCertified c core
     → other.config ≡ c.config → HasPairs (setting_of c.config) other.journal → Among e (decided_in other)

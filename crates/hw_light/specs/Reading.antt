@@ -13,7 +13,7 @@ use Rattle.hw_light.specs.declared.certificate.Certificate.{Certificate}
 use Rattle.hw_light.specs.declared.error.CertError.{CertError}
 use Rattle.hw_light.specs.declared.error.CertError.TheVariants.{BadMagic, Version, Torn, TooLong, BadConfig, BadVertex, Trailing, OutOfMemory}
 
--- a value and what is left behind it, or the first error
+-- a value and what is left after it, or the first error
 abbrev pub Read : Type 0 → Type 0
 Read A = Result (A × Rest) CertError
 
@@ -23,11 +23,11 @@ abbrev pub ◌>>=◌ : {A B : Type 0} → Result A CertError → (A → Result B
 (Ok x) >>= f = f x
 (Err e) >>= f = Err e
 
--- so many bytes from a place on
+-- these bytes from a place on
 abbrev pub rest_at : ℕ → List ℕ → Rest
 rest_at place bytes = record { place = place; bytes = bytes }
 
--- a field of so many bytes
+-- a field of this many bytes
 abbrev pub field_at : ℕ → Rest → Read (List ℕ)
 field_at n r = if nat_lt (length r.bytes) n then Err (Torn r.place) else Ok (take n r.bytes, rest_at (r.place + n) (drop n r.bytes))
 
@@ -35,7 +35,7 @@ field_at n r = if nat_lt (length r.bytes) n then Err (Torn r.place) else Ok (tak
 abbrev pub count_at : ℕ → Rest → Read ℕ
 count_at limit r = field_at 4 r >>= λ b. if nat_lt limit (from_be_bytes w32 b.0) then Err (TooLong r.place) else Ok (from_be_bytes w32 b.0, b.1)
 
--- a length of at most 1,048,576, and so many bytes
+-- a length of at most 1,048,576, and that many bytes
 unfoldable pub part_at : Rest → Read (List ℕ)
 part_at r = count_at most_bytes r >>= λ n. field_at n.0 n.1
 
@@ -44,21 +44,21 @@ abbrev pub decoded : {A : Type 0} → (CodecError → CertError) → Result A Co
 decoded wrap (Ok x) = Ok x
 decoded wrap (Err e) = Err (wrap e)
 
--- a configuration behind its length
+-- a configuration after its length
 unfoldable pub config_at : Rest → Read Config
 config_at r = do
   part ← part_at r
   config ← decoded BadConfig (config_of part.0)
   Ok (config, part.1)
 
--- a vertex behind its length
+-- a vertex after its length
 unfoldable pub vertex_at : Rest → Read Vertex
 vertex_at r = do
   part ← part_at r
   vertex ← decoded (BadVertex r.place) (vertex_of part.0)
   Ok (vertex, part.1)
 
--- so many vertices
+-- this many vertices
 unfoldable pub vertices_at : ℕ → Rest → Read (List Vertex)
 vertices_at zero r = Ok ([], r)
 vertices_at (suc n) r = do
@@ -66,11 +66,11 @@ vertices_at (suc n) r = do
   others ← vertices_at n first.1
   Ok (first.0 ∷ others.0, others.1)
 
--- what is left behind the four first bytes, which say what this is
+-- what is left after the four first bytes, which say what this is
 abbrev pub behind_magic : List ℕ → Result Rest CertError
 behind_magic bytes = if starts_with nat_eq bytes (codes "HWCT") then Ok (rest_at 4 (drop 4 bytes)) else Err BadMagic
 
--- what is left behind the version, which is 1
+-- what is left after the version, which is 1
 abbrev pub behind_version : Rest → Result Rest CertError
 behind_version r = field_at 1 r >>= λ v. if slice_index v.0 0 == 1 then Ok v.1 else Err (Version (slice_index v.0 0))
 
@@ -112,11 +112,11 @@ Gives view (Err e) read = Fails e read
 abbrev pub IsReadAs : Result Certificate CertError → Certificate → Type 0
 IsReadAs result c = (result ≡ Ok c) ⊎ (result ≡ Err OutOfMemory)
 
--- there is no memory, or it is the first error in reading order, with its place
+-- it is out of memory, or it is the first error in reading order, with its place
 abbrev pub IsErrorOf : Result Certificate CertError → CertError → Type 0
 IsErrorOf read e = (e ≡ OutOfMemory) ⊎ (read ≡ Err e)
 
--- no error of content holds want of memory
+-- no error of content contains "out of memory"
 abbrev pub WrapsNoWant : CertError → Type 0
 WrapsNoWant (BadConfig codec.OutOfMemory) = ⊥
 WrapsNoWant (BadVertex at codec.OutOfMemory) = ⊥

@@ -7,15 +7,15 @@ use Rattle.hw_types.specs.Spelling.{u32_bytes, counted, config_bytes, vertex_byt
 use Rattle.hw_codec.specs.Ranges.{DigestInRange, ConfigInRange, VertexInRange}
 use Rattle.hw_light.specs.declared.certificate.Certificate.{Certificate}
 
--- a text behind its length
+-- a text after its length
 abbrev pub part_bytes : List ℕ → List ℕ
 part_bytes text = u32_bytes (length text) ++ text
 
--- a vertex behind its length
+-- a vertex after its length
 abbrev pub counted_vertex : Vertex → List ℕ
 counted_vertex v = part_bytes (vertex_bytes v)
 
--- HWCT, the version 1, the configuration behind its length, the block, and how many vertices there are and each of them
+-- HWCT, the version 1, the configuration after its length, the block, how many vertices there are, and each of them
 abbrev pub certificate_bytes : Certificate → List ℕ
 certificate_bytes c = codes "HWCT" ++ (1 ∷ []) ++ part_bytes (config_bytes c.config) ++ c.block.0 ++ counted counted_vertex c.vertices
 

@@ -1,4 +1,4 @@
--- Whether a block stands for a node.
+-- Whether a block has a summit for a node.
 use Rattle.std.specs.Prelude.{◌≡◌, ℕ, ◌≤◌, length, sum}
 use Rattle.hw_types.specs.declared.config.Config.{Config}
 use Rattle.hw_types.specs.declared.unit.Digest.{Digest}
@@ -15,7 +15,7 @@ use Rattle.hw_admit.specs.State.{NodeState}
 use Rattle.hw_core.specs.Order.{order_in}
 use Rattle.hw_core.specs.Settle.{admitted_in}
 
--- the block is a settled unit, and stands at some level
+-- the block is a settled unit, and has a summit at some level
 pub record BlockStands (core : CoreState) (block : Digest) : Type 0 where
   pub unit : Node
   pub inside : Among unit (settled_in core)

@@ -9,11 +9,11 @@ use Rattle.hw_light.specs.declared.answers.CheckFault.{CheckFault}
 use Rattle.hw_light.specs.declared.answers.CheckFault.TheVariants.{Config as BadLimit, Refused, Exceeded, Unstood}
 use Rattle.hw_light.specs.declared.error.CertError.{CertError}
 use Rattle.hw_light.specs.declared.error.CertError.TheVariants as cert
-use Rattle.hw_light.specs.Asked.{Told, NoDecision, NoStanding, NoLength, HasCertificate}
+use Rattle.hw_light.specs.Asked.{Outcome, NoDecision, NoStanding, NoLength, HasCertificate}
 
 -- ---- what is wrong with bytes
 
--- Why bytes are no certificate. Want of memory has no text here.
+-- Why bytes are no certificate. Out of memory has no text here.
 unfoldable pub error_text : CertError → List ℕ
 error_text cert.BadMagic = codes "bad magic"
 error_text (cert.Version v) = codes "version " ++ number_text v
@@ -26,8 +26,8 @@ error_text cert.OutOfMemory = []
 
 -- ---- answers, a line each
 
--- what is told of a block
-unfoldable pub told_line : Told → List ℕ
+-- what is reported of a block
+unfoldable pub told_line : Outcome → List ℕ
 told_line NoDecision = codes "no decision" ++ line_feed
 told_line NoStanding = codes "no standing" ++ line_feed
 told_line (NoLength count) = codes "no length " ++ number_text count ++ line_feed
@@ -40,6 +40,6 @@ fault_line (Refused number why) = codes "no refused " ++ number_text number ++ l
 fault_line (Exceeded weight) = codes "no exceeded " ++ number_text weight ++ line_feed
 fault_line Unstood = codes "no standing" ++ line_feed
 
--- that a block of this height stands
+-- that a block of this height has a summit
 abbrev pub yes_line : Digest → ℕ → List ℕ
 yes_line block height = codes "yes " ++ digest_text block ++ codes " height " ++ number_text height ++ line_feed

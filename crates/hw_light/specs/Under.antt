@@ -48,8 +48,8 @@ nodes_at dag numbers = map (λ (no : UnitNo). node_at dag no.0) numbers
 abbrev pub AreKnown : UnitGraph → List UnitNo → Type 0
 AreKnown dag numbers = (no : UnitNo) → Among no numbers → no.0 < count_of dag
 
--- The units of these numbers are those of the graph at or below the latest units of the first committee of the greatest summit that
--- the decided block of that place has now.
+-- The units of these numbers are those of the graph at or below the latest units of a first committee. It is that of
+-- the greatest summit that the decided block of that place has now.
 pub record AreUnder (core : CoreState) (index : ℕ) (decision : Decision) (dag : UnitGraph) (numbers : List UnitNo) : Type 0 where
   pub committees : Committees
   pub greatest : IsGreatestNow core index decision committees

@@ -12,7 +12,8 @@ use Rattle.hw_light.specs.CheckedTexts.{checked_of}
 use Rattle.hw_light.specs.Asked.{IsAskedOf, told_in, told_of}
 use Rattle.hw_light.specs.Keys.{keys_of}
 
--- A text of keys that a node reads is the same text to a check, with the same keys or the same first place that is wrong.
+-- A text of keys that a node reads is the same text to a check: with the same keys, or the same first place that is
+-- wrong.
 abbrev pub KeysAreReadAlike : Type 0
 KeysAreReadAlike = (validators : ℕ) (text : List ℕ)
     → ((keys : List (List ℕ)) → IsTextOf validators text keys → keys_of validators text ≡ Ok keys)
@@ -22,6 +23,6 @@ KeysAreReadAlike = (validators : ℕ) (text : List ℕ)
 abbrev pub AnswerIsWorkedOut : Type 0
 AnswerIsWorkedOut = (c : Certificate) (verdicts : List Bool) (answer : Checked) → IsAnswer c verdicts answer → answer ≡ checked_of c verdicts
 
--- What a node tells of a certificate that it is asked for is what is worked out.
+-- What a node reports of a certificate that it is asked for is what is worked out.
 abbrev pub AskedIsWorkedOut : Type 0
 AskedIsWorkedOut = (core : CoreState) (block : Digest) (answer : Asked) → IsAskedOf core block answer → told_in answer ≡ told_of core block

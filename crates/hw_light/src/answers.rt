@@ -20,9 +20,9 @@ pub enum CheckFault {
 /// What a certificate is answered.
 #[derive(Drop)]
 pub enum Checked {
-    /// The block stands, for a node that took the vertices.
+    /// The block has a summit, for a node that took the vertices.
     Yes(Core),
-    /// It isn't shown to.
+    /// It isn't shown to have one.
     No(CheckFault),
 }
 
@@ -33,6 +33,6 @@ pub enum Certified {
     Made(Certificate),
     /// The faulty validators weigh more than the threshold, or the decided block has no summit now.
     NotNow,
-    /// It would have so many vertices, more than a journal may have.
+    /// It would have this many vertices, more than a journal may have.
     TooLong(u64),
 }

@@ -6,7 +6,7 @@
 //! | no decision has the block | `no decision` |
 //! | the faulty weigh too much, or the block has no summit | `no standing` |
 //! | a certificate would have C vertices, too many | `no length C` |
-//! | the block stands, and its height is H | `yes HASH height H` |
+//! | the block has a summit, and its height is H | `yes HASH height H` |
 //! | the configuration breaks a limit | `no config FAULT` |
 //! | the vertex numbered I is refused | `no refused I` |
 //! | the faulty have the weight W | `no exceeded W` |
@@ -35,7 +35,7 @@ pub enum Asked {
 pub fn certify_block(alloc: Global, core: &mut Core, block: &Digest) -> Result<Asked, OutOfMemory>
     ensures answer { IfOk result (IsAskedOf core.old block.now) }
 
-    // So what is told of it is worked out from the node: which answer it is, and how many vertices there are.
+    // So the report on it is worked out from the node: which answer it is, and how many vertices there are.
     ensures told { IfOk result (λ answer. told_in answer ≡ told_of core.old block.now) }
 
     // A certificate is answered yes where its signatures are right, and it may be spelled.
@@ -49,7 +49,7 @@ pub fn certify_block(alloc: Global, core: &mut Core, block: &Digest) -> Result<A
     }
 }
 
-/// The place among the decided blocks of the first one of this digest. None exactly where there is none.
+/// The place among the decided blocks of the first one of this digest. None exactly when there is none.
 pub fn decision_of(core: &Core, block: &Digest) -> Option<u64>
     ensures found { IfSome result (IsDecisionOf core.now block.now) }
     ensures none { IfNone result (HasNoDecision core.now block.now) }

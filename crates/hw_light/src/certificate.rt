@@ -5,7 +5,7 @@ use hw_types::{Config, Digest, Items, Vertex};
 /// Vertices.
 pub type VertexList = Items<Vertex>;
 
-/// A block, and vertices that make it stand for who takes them in turn.
+/// A block, and vertices that give it a summit for a node that takes them in turn.
 #[derive(Drop)]
 pub struct Certificate {
     /// The configuration of the block's instance.

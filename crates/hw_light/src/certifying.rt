@@ -13,19 +13,19 @@ use hw_core::Core;
 use hw_types::{Config, Digest, OutOfMemory};
 use std::alloc::Global;
 
-/// The certificate of the decided block of that place, for who needs no other part of the log.
+/// The certificate of the decided block of that place, for a reader that needs no other part of the log.
 ///
 /// Its vertices are, in this order: evidence against each validator that one of its units marks as faulty,
 /// in rising order; the journal's endorsements of what the units list, in the journal's order; and the
 /// units, in the order in which they settled. They are the settled units at or below the latest units of
 /// the first committee of the block's greatest summit.
 ///
-/// `NotNow` is answered exactly where the faulty validators weigh more than the threshold or
-/// [`Core::summit_now`] is false, and `TooLong` with their number exactly where the vertices are more than a
-/// journal may have. The evidence is that of [`hw_needs::evidence_of`].
+/// `NotNow` is answered exactly when the faulty validators weigh more than the threshold or
+/// [`Core::summit_now`] is false. `TooLong` is answered, with the number of the vertices, exactly when they are
+/// more than a journal may have. The evidence is that of [`hw_needs::evidence_of`].
 pub fn certify(alloc: Global, core: &mut Core, index: u64) -> Result<Certified, OutOfMemory>
     requires { index < length (decided_in core.old) }
-    // Each answer is given exactly where it is due.
+    // Each answer is given exactly when it is due.
     ensures answer { IfOk result (IsCertifiedAs core.old index) }
 
     // The certificate is answered yes where its signatures are right.

@@ -12,7 +12,7 @@ use hw_core::Core;
 use hw_types::{Cause, Config, ConfigFault, Digest, OutOfMemory, Vertex};
 use std::alloc::Global;
 
-/// Whether the vertices of a certificate make its block stand, with these verdicts on their
+/// Whether the vertices of a certificate give its block a summit, with these verdicts on their
 /// signatures, one for each vertex.
 ///
 /// The vertices are delivered in order to a new node. A yes answers that node, in which the block is
@@ -24,14 +24,14 @@ pub fn check(
 ) -> Result<Checked, OutOfMemory>
     requires fits { All VertexFits certificate.now.vertices }
     requires verdicts { length verdicts.now ≡ length certificate.now.vertices }
-    // Each answer is given exactly where it is due.
+    // Each answer is given exactly when it is due.
     ensures answer { IfOk result (IsAnswer certificate.now verdicts.now) }
 
     // A yes shows that the vertices certify the block, the node has their journal, and each verdict is true.
     ensures yes { IfOk result (IfYes (IsCertified certificate.now)) }
     ensures signed { IfOk result (IfYes (λ core. All (λ verdict. IsTrue verdict) verdicts.now)) }
 {
-    // The node stands in a list, so that it is dropped in one place, whatever is answered.
+    // The node is in a list, so that it is dropped in one place, whatever is answered.
     let mut nodes = Vec::new(alloc);
     match begin(alloc, &mut nodes, &certificate.config)? {
         Some(fault) => Ok(Checked::No(CheckFault::Config(fault))),
@@ -59,7 +59,7 @@ fn begin(
     }
 }
 
-/// The check with a new node of the certificate's configuration, which stands in the list.
+/// The check with a new node of the certificate's configuration, which is in the list.
 fn check_with(
     alloc: Global,
     mut nodes: Vec<Core>,
@@ -146,8 +146,8 @@ fn take_all(
     Ok(None)
 }
 
-/// That the vertex of this number is refused. Where it is refused for want of memory, that is
-/// answered.
+/// That the vertex of this number is refused. If the cause is that the node is out of memory, that is the
+/// error.
 fn refused_at(index: usize, cause: Cause) -> Result<CheckFault, OutOfMemory>
     ensures { IfOk result (IsRefusalOf index cause) }
 {

@@ -16,9 +16,9 @@ use std::alloc::Global;
 
 /// The certificate that the bytes spell, all of them.
 ///
-/// The first error in the order of the bytes is answered. Its place is that of the field that is
-/// cut or too long, of a vertex's length where the vertex is no spelling, or of the first byte
-/// behind the whole.
+/// The first error in the order of the bytes is answered, with its place. That is the place of the field that is
+/// cut or too long. Where a vertex is no spelling, it is that of the vertex's length. Otherwise it is that of the
+/// first byte after the whole.
 pub fn decode_certificate(alloc: Global, bytes: &[u8]) -> Result<Certificate, CertError>
     // What is read is spelled so, every byte of it.
     ensures ok { IfOk result (λ certificate. SpellsCertificate bytes.now certificate) }
@@ -29,7 +29,7 @@ pub fn decode_certificate(alloc: Global, bytes: &[u8]) -> Result<Certificate, Ce
     // It is what reading from left to right gives.
     ensures value { IfOk result (λ certificate. certificate_of bytes.now ≡ Ok certificate) }
 
-    // Another error is the first one, and none of content holds want of memory.
+    // Another error is the first one, and no error of content contains "out of memory".
     ensures error { IfErr result (IsErrorOf (certificate_of bytes.now)) }
     ensures memory { IfErr result WrapsNoWant }
 {
@@ -55,7 +55,7 @@ fn whole_certificate(alloc: Global, bytes: &[u8]) -> Result<Certificate, CertErr
     })
 }
 
-/// Reads the configuration behind its length.
+/// Reads the configuration, which comes after its length.
 #[tactic(auto, unfolding(crate::specs::Reading::config_at))]
 fn read_config(alloc: Global, reader: &mut Reader<'_>) -> Result<Config, CertError>
     ensures said { Gives (λ config. (config, reader.new)) result (config_at reader.old) }
@@ -65,7 +65,7 @@ fn read_config(alloc: Global, reader: &mut Reader<'_>) -> Result<Config, CertErr
     decoded_config(alloc, part)
 }
 
-/// Reads so many vertices.
+/// Reads this many vertices.
 fn read_vertices(
     alloc: Global,
     count: u32,
@@ -81,7 +81,7 @@ fn read_vertices(
     Ok(vertices)
 }
 
-/// Reads a vertex behind its length.
+/// Reads a vertex, which comes after its length.
 #[tactic(auto, unfolding(crate::specs::Reading::vertex_at))]
 fn read_vertex(alloc: Global, reader: &mut Reader<'_>) -> Result<Vertex, CertError>
     ensures said { Gives (λ vertex. (vertex, reader.new)) result (vertex_at reader.old) }
@@ -104,7 +104,7 @@ fn decoded_config(alloc: Global, bytes: &[u8]) -> Result<Config, CertError>
     }
 }
 
-/// The vertex that these bytes spell, whose length stands at this place.
+/// The vertex that these bytes spell, whose length is at this place.
 fn decoded_vertex(alloc: Global, at: u64, bytes: &[u8]) -> Result<Vertex, CertError>
     ensures said { Gives (λ vertex. vertex) result (decoded (BadVertex at) (vertex_of bytes.now)) }
     ensures memory { IfErr result WrapsNoWant }

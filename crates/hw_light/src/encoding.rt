@@ -28,7 +28,7 @@ pub fn encode_certificate(alloc: Global, certificate: &Certificate) -> Result<By
     Ok(out)
 }
 
-/// Puts a configuration last, behind its length.
+/// Puts a configuration last, after its length.
 #[tactic(auto, using(crate::proofs::LengthLaws::config_short))]
 fn put_config(alloc: Global, config: &Config, out: &mut Bytes) -> Result<(), OutOfMemory>
     requires { ConfigFits config.now }
@@ -40,7 +40,7 @@ fn put_config(alloc: Global, config: &Config, out: &mut Bytes) -> Result<(), Out
     put_part(spelling.as_slice(), out)
 }
 
-/// Puts vertices last, each behind its length.
+/// Puts vertices last, each after its length.
 fn put_vertices(alloc: Global, vertices: &[Vertex], out: &mut Bytes) -> Result<(), OutOfMemory>
     requires { All VertexFits vertices.now }
     ensures { OnOk result (out.new ≡ out.old ++ flat_map counted_vertex vertices.now) }
@@ -51,7 +51,7 @@ fn put_vertices(alloc: Global, vertices: &[Vertex], out: &mut Bytes) -> Result<(
     Ok(())
 }
 
-/// Puts a vertex last, behind its length.
+/// Puts a vertex last, after its length.
 #[tactic(auto, using(crate::proofs::LengthLaws::vertex_short))]
 fn put_vertex(alloc: Global, vertex: &Vertex, out: &mut Bytes) -> Result<(), OutOfMemory>
     requires { VertexFits vertex.now }
@@ -63,7 +63,7 @@ fn put_vertex(alloc: Global, vertex: &Vertex, out: &mut Bytes) -> Result<(), Out
     put_part(spelling.as_slice(), out)
 }
 
-/// Puts bytes last, behind their length.
+/// Puts bytes last, after their length.
 fn put_part(part: &[u8], out: &mut Bytes) -> Result<(), OutOfMemory>
     requires { length part.now < 2 ^ 32 }
     ensures { OnOk result (out.new ≡ out.old ++ part_bytes part.now) }

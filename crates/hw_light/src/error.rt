@@ -14,17 +14,16 @@ pub enum CertError {
     Version(u8),
     /// The bytes end inside the field that begins here.
     Torn(u64),
-    /// A configuration or a vertex, whose length stands here, has more than 1,048,576 bytes, or
-    /// there are more than 131,072 vertices, whose count stands here.
+    /// A configuration or a vertex, whose length is here, has more than 1,048,576 bytes. Or there are
+    /// more than 131,072 vertices, whose count is here.
     TooLong(u64),
     /// The bytes of the configuration are no spelling. The place in it counts from its first byte.
     BadConfig(CodecError),
-    /// The vertex whose length stands here is no spelling. The place in it counts from its kind
-    /// byte.
+    /// The vertex whose length is here is no spelling. The place in it counts from its kind byte.
     BadVertex(u64, CodecError),
-    /// The certificate ended, and this is the first byte behind it.
+    /// The certificate ended, and this is the first byte after it.
     Trailing(u64),
-    /// There was no memory.
+    /// Out of memory.
     OutOfMemory,
 }
 

@@ -7,7 +7,7 @@ use crate::CertError;
 use hw_text::{put_codec, put_numbered, put_word};
 use hw_types::{Bytes, OutOfMemory};
 
-/// Puts the text of the error last. Want of memory has none.
+/// Puts the text of the error last. Out of memory has none.
 #[tactic(auto, using(std::proofs::Common::append_assoc), unfolding(crate::specs::Texts::error_text))]
 pub fn put_error(text: &mut Bytes, error: CertError) -> Result<(), OutOfMemory>
     ensures { OnOk result (text.new ≡ text.old ++ error_text error) }

@@ -9,24 +9,24 @@ ghost use Rattle.hw_light.specs.{Checked.{IsCertified}, Laws.{YesIsDecided, YesI
 use crate::certificate::Certificate;
 use hw_core::Core;
 
-/// The node of a yes decided the certificate's block. A node of the same configuration that decided another
-/// block of that height is in a conflict with it whose culprits weigh more than the threshold, or a unit of the
-/// one and a unit of the other differ and have one digest. That the other's evidence are pairs is what
+/// The node of a yes decided the certificate's block. Let a node of the same configuration have decided another
+/// block of that height. Then the two are in a conflict whose culprits weigh more than the threshold. Or a unit
+/// of the one and a unit of the other differ and have one digest. That the other's evidence are pairs is what
 /// `Core::state` says of each node.
 pub fn a_yes_is_accountable()
     ensures decided { YesIsDecided }
     ensures accountable { YesIsAccountable }
 {}
 
-/// The second of these of a node in hand, beside the node of a yes: `Core::state` says of each node what the law asks
-/// for.
+/// The second of these for a node that a caller has, beside the node of a yes: `Core::state` says of each node what the
+/// law asks for.
 pub fn who_decided_otherwise_is_accountable(certificate: &Certificate, yes: &Core, other: &Core)
     requires certified { IsCertified certificate.now yes.now }
     requires config { other.now.config ≡ certificate.now.config }
     ensures { (e : Decided) (v : Judgement) → Among e (decided_in other.now) → Any (λ (d : Decided). (d.block ≡ certificate.now.block) × (d.height ≡ e.height)) (decided_in yes.now) → (e.block ≡ certificate.now.block → ⊥) → IsVerdict (setting_of certificate.now.config) yes.now.journal other.now.journal (decided_in yes.now) (decided_in other.now) v → IsAccountable certificate.now.config.ftt v }
 {
     let _state = other.state();
-    // These two stand in the contract alone.
+    // For the prover: these two are in the contract alone.
     let _ = certificate;
     let _ = yes;
 }
@@ -36,7 +36,7 @@ pub fn keys_are_read_alike()
     ensures { KeysAreReadAlike }
 {}
 
-/// What a check answers, and what a node tells of a certificate that it is asked for, are what is worked out.
+/// What a check answers, and what a node reports of a certificate that it is asked for, are what is worked out.
 pub fn answers_are_worked_out()
     ensures checked { AnswerIsWorkedOut }
     ensures asked { AskedIsWorkedOut }

@@ -1,17 +1,17 @@
-//! Light certificates: a block, and the vertices that make it stand.
+//! Light certificates: a block, and the vertices that give it a summit.
 //!
-//! Who checks a certificate needs nothing else of the log that it comes from.
+//! The check of a certificate needs nothing else of the log that it comes from.
 //!
-//! A certificate has one spelling. Reading answers the certificate exactly where all of the bytes
-//! are its spelling, and otherwise the first error in the order of the bytes with its place.
+//! A certificate has one spelling. Reading answers the certificate exactly when all of the bytes
+//! are its spelling. Otherwise it answers the first error in the order of the bytes, with its place.
 //!
-//! `certify` makes the certificate of a decided block: the settled units that its greatest summit rests on,
+//! `certify` makes the certificate of a decided block: the settled units that its greatest summit depends on,
 //! with the evidence and the endorsements that they need.
 //!
 //! A check delivers the vertices to a new node. It answers yes where no vertex is refused, the faulty weigh no
-//! more than the threshold, and the block stands. So a yes shows that the vertices certify the block: it is
-//! decided. Another node that decided another block of that height is in a conflict with it whose culprits weigh
-//! more than the threshold. A certificate that was made is answered yes where its signatures are right.
+//! more than the threshold, and the block has a summit. So a yes shows that the vertices certify the block: it is
+//! decided. Another node that decided another block of that height is in a conflict with it, and the culprits
+//! weigh more than the threshold. A certificate that was made is answered yes where its signatures are right.
 #![tactic(auto)]
 
 mod answers;

@@ -36,7 +36,7 @@ impl<'a> Model for Reader<'a> {
 }
 
 impl<'a> Reader<'a> {
-    /// A reader behind the bytes that say what this is.
+    /// A reader after the bytes that say what this is.
     pub(crate) fn begin(bytes: &'a [u8]) -> Result<Reader<'a>, CertError>
         ensures said { Gives (λ reader. reader) result (behind_magic bytes.now) }
         ensures memory { IfErr result WrapsNoWant }
@@ -57,7 +57,7 @@ impl<'a> Reader<'a> {
         self.place
     }
 
-    /// Goes behind the version.
+    /// Reads the version, which must be the one of this format.
     pub(crate) fn version(&mut self) -> Result<(), CertError>
         ensures said { Gives (λ _. self.new) result (behind_version self.old) }
         ensures memory { IfErr result WrapsNoWant }
@@ -69,7 +69,7 @@ impl<'a> Reader<'a> {
         Ok(())
     }
 
-    /// A field of so many bytes.
+    /// A field of this many bytes.
     fn field(&mut self, count: usize) -> Result<&'a [u8], CertError>
         ensures said { Gives (λ bytes. (bytes.now, self.new)) result (field_at count self.old) }
         ensures memory { IfErr result WrapsNoWant }
@@ -111,7 +111,7 @@ impl<'a> Reader<'a> {
         Ok(count)
     }
 
-    /// The bytes of a part behind their length.
+    /// The bytes of a part, which come after their length.
     #[tactic(auto, unfolding(crate::specs::Reading::part_at))]
     pub(crate) fn part(&mut self) -> Result<&'a [u8], CertError>
         ensures said { Gives (λ bytes. (bytes.now, self.new)) result (part_at self.old) }

@@ -1,4 +1,4 @@
-//! Whether a block stands for a node.
+//! Whether a block has a summit for a node.
 
 ghost use Rattle.std.specs.Prelude.{◌≡◌, ◌<◌, ◌↔◌, length, IsTrue, IfOk};
 ghost use Rattle.hw_dag.specs.Dag.{count_of};
@@ -11,7 +11,7 @@ use hw_horizon::Horizons;
 use hw_types::{Digest, OutOfMemory, quorum};
 use std::alloc::Global;
 
-/// Whether the block of this digest stands for the node, at any level.
+/// Whether the block of this digest has a summit for the node, at any level.
 pub(crate) fn stands(alloc: Global, core: &Core, block: &Digest) -> Result<bool, OutOfMemory>
     ensures { IfOk result (λ answer. IsTrue answer ↔ BlockStands core.now block.now) }
 {
@@ -28,7 +28,7 @@ pub(crate) fn search_for(alloc: Global, core: &Core) -> Result<Horizons, OutOfMe
     Horizons::new(alloc, config.weights.len() as u32, u32::from(config.levels))
 }
 
-/// Whether the block of this digest stands for the node, by this search.
+/// Whether the block of this digest has a summit for the node, by this search.
 fn stands_in(search: &mut Horizons, core: &Core, block: &Digest) -> bool
     requires { IsFresh search.old core.now.config }
     ensures { IsTrue result ↔ BlockStands core.now block.now }

@@ -14,9 +14,9 @@ use hw_horizon::Horizons;
 use hw_types::{Decision, OutOfMemory};
 use std::alloc::Global;
 
-/// The numbers of the units at or below the latest units of the first committee of the greatest summit
-/// that this decided block has now, in the order in which they settled. None exactly where it has no summit
-/// now.
+/// The numbers of the units at or below the latest units of a first committee, in the order in which they
+/// settled. The committee is that of the greatest summit that this decided block has now. None exactly when it
+/// has no summit now.
 pub(crate) fn summit_units(
     alloc: Global,
     core: &Core,

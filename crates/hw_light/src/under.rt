@@ -56,7 +56,7 @@ fn latest_marked(
     Ok(marked)
 }
 
-/// So many places without a mark.
+/// This many places without a mark.
 fn unmarked(alloc: Global, count: u32) -> Result<Vec<bool>, OutOfMemory>
     ensures { IfOk result (λ marked. marked.items ≡ replicate count false) }
 {

@@ -38,7 +38,7 @@ act_text names s journal act.ShowPanorama = panorama_text names (panorama_of s.c
 act_text names s journal act.ShowFaulty = faulty_line (faulty_in s.config (received_of s journal))
 act_text names s journal act.ShowFinal = finals_text names s journal
 
--- the journal behind a step
+-- the journal after a step
 abbrev pub journal_behind : Setting → List Vertex → Act → List Vertex
 journal_behind s journal (act.Deliver n) = journal_after s journal (n.vertex, true)
 journal_behind s journal (act.Endorse name d v) = journal_after s journal (endorsement_of d v, true)
@@ -52,8 +52,8 @@ unfoldable pub acts_text : List Named → Setting → List Vertex → List Act �
 acts_text names s journal [] = []
 acts_text names s journal (a ∷ more) = act_text names s journal a ++ acts_text names s (journal_behind s journal a) more
 
--- What the text's script prints, where units are named so; or the number of the first line outside the grammar, and then
--- nothing of it has run.
+-- What the text's script prints, with these names of units. Or the number of the first line outside the grammar: then
+-- nothing of the script has run.
 unfoldable pub output_in : (Config → Setting) → List ℕ → Result (List ℕ) ℕ
 output_in setting text = script_in setting text >>= λ (script : Script). Ok (acts_text script.names (setting script.config) [] script.acts)
 
@@ -71,6 +71,6 @@ Prints text output = (script : Script) × Writes text script × (output ≡ acts
 abbrev pub ThatOutputIsPrinted : Type 0
 ThatOutputIsPrinted = (text output : List ℕ) → (output_of text ≡ Ok output) ↔ Prints text output
 
--- and a line is named exactly where it is the first that is wrong
+-- and a line is named exactly when it is the first that is wrong
 abbrev pub ThatWrongIsNamed : Type 0
 ThatWrongIsNamed = (text : List ℕ) (n : ℕ) → (output_of text ≡ Err n) ↔ IsFirstWrong text n

@@ -14,7 +14,7 @@ use Rattle.hw_script.specs.Shows.{line_at}
 abbrev pub line_in : List Named → CoreState → Decision → List ℕ
 line_in names c d = line_at names (setting_of c.config) c.journal d
 
--- the text has the lines of so many of the node's decisions
+-- the text has the lines of the first decisions of the node, this many
 abbrev pub HasLines : List Named → Finals → CoreState → ℕ → Type 0
 HasLines names finals c count = finals.text ≡ flat_map (line_in names c) (take count (decided_in c))
 
@@ -23,7 +23,7 @@ pub record HasTold (names : List Named) (finals : Finals) (c : CoreState) : Type
   pub count : finals.count ≡ length (decided_in c)
   pub lines : finals.text ≡ flat_map (line_in names c) (decided_in c)
 
--- what it told is of the node as it is, or as it was before the last vertex
+-- its lines are of the node as it is, or as it was before the last vertex
 pub record IsBehind (names : List Named) (finals : Finals) (c : CoreState) : Type 0 where
   pub before : CoreState
   pub told_before : HasTold names finals before

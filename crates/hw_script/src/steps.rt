@@ -5,14 +5,14 @@ ghost use Rattle.hw_text.specs.Text.{number_text};
 ghost use Rattle.hw_types.specs.{Spelling.{VertexFits, digest_of}, Real.{setting_of, answer_in, after_in}};
 ghost use Rattle.hw_types.specs.declared.answers.Cause.TheVariants as Causes;
 ghost use Rattle.hw_types.specs.declared.unit.Vertex.TheVariants as vertex;
-ghost use Rattle.hw_script_grammar.specs.{Fits.{ActFits}, Names.{NamedFits, unit_in}};
+ghost use Rattle.hw_script_grammar.specs.{Fits.{ActFits}, Names.{unit_in}};
 ghost use Rattle.hw_script.specs.{Output.{endorsement_of, answer_line, act_text, acts_text, journal_behind}, Told.{HasTold}};
 
 use crate::answers::put_answer;
 use crate::finals::Finals;
 use crate::shows::{put_faulty_of, put_fork, put_panorama};
 use hw_core::{Core, Refused, UnitRefused};
-use hw_script_grammar::{Act, Acts, Named, Names};
+use hw_script_grammar::{Act, Acts, Names};
 use hw_text::{end_line, put_numbered, put_word};
 use hw_types::{
     Bytes, Cause, Digest, Endorsement, OutOfMemory, Receipt, Signature, SignedUnit, Vertex,
@@ -55,7 +55,11 @@ fn act(
     ensures core { OnOk result (core.new ≡ record core.old { journal = journal_behind (setting_of core.old.config) core.old.journal act.now }) }
 {
     match act {
-        Act::Deliver(named) => deliver(alloc, names, named, core, finals, out),
+        Act::Deliver(named) => {
+            put_delivered(out, named.name.as_slice())?;
+            let vertex = named.vertex.copy()?;
+            take(alloc, names, vertex, named.digest, core, finals, out)
+        }
         Act::Endorse(name, unit, endorser) => {
             put_endorsed(out, name.as_slice(), *endorser)?;
             take(
@@ -75,26 +79,13 @@ fn act(
     }
 }
 
-/// Delivers what is defined under a name.
+/// Puts the words before the answer to the vertex of this name last.
 #[tactic(auto, using(std::proofs::Common::append_assoc))]
-fn deliver(
-    alloc: Global,
-    names: &Names,
-    named: &Named,
-    core: &mut Core,
-    finals: &mut Finals,
-    out: &mut Bytes,
-) -> Result<(), OutOfMemory>
-    requires told { HasTold names.now finals.old core.old }
-    requires fits { NamedFits named.now }
-    ensures told { OnOk result (HasTold names.now finals.new core.new) }
-    ensures out { OnOk result (out.new ≡ out.old ++ (named.now.name ++ (codes " " ++ answer_line (setting_of core.old.config) core.old.journal named.now.vertex))) }
-    ensures core { OnOk result (core.new ≡ after_in core.old named.now.vertex true) }
+fn put_delivered(out: &mut Bytes, name: &[u8]) -> Result<(), OutOfMemory>
+    ensures { OnOk result (out.new ≡ out.old ++ (name.now ++ codes " ")) }
 {
-    out.extend(named.name.as_slice())?;
-    put_word(out, " ")?;
-    let vertex = named.vertex.copy()?;
-    take(alloc, names, vertex, named.digest, core, finals, out)
+    out.extend(name)?;
+    put_word(out, " ")
 }
 
 /// Puts the words before the answer to an endorsement of the unit of this name last.
