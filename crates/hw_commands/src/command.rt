@@ -186,14 +186,11 @@ fn of_one<'w>(command: &str, word: &'w str) -> Option<Command<'w>>
     ensures asked { asked result ≡ of_one command.now word.now }
     ensures range { IfSome result IsInRange }
 {
-    if command == "replay" {
-        Some(Command::Replay { log: word })
-    } else if command == "explain" {
-        Some(Command::Explain { log: word })
-    } else if command == "script" {
-        Some(Command::Script { file: word })
-    } else {
-        None
+    match (command, word) {
+        ("replay", log) => Some(Command::Replay { log }),
+        ("explain", log) => Some(Command::Explain { log }),
+        ("script", file) => Some(Command::Script { file }),
+        _ => None,
     }
 }
 
@@ -203,30 +200,13 @@ fn of_two<'w>(command: &str, first: &'w str, second: &'w str) -> Option<Command<
     ensures asked { asked result ≡ of_two command.now first.now second.now }
     ensures range { IfSome result IsInRange }
 {
-    if command == "audit" {
-        Some(Command::Audit {
-            left: first,
-            right: second,
-        })
-    } else if command == "mend" {
-        Some(Command::Mend {
-            log: first,
-            new: second,
-        })
-    } else if command == "migrate" {
-        Some(Command::Migrate {
-            log: first,
-            new: second,
-        })
-    } else if command == "check" {
-        Some(Command::Check {
-            file: first,
-            keys: second,
-        })
-    } else if command == "gen" {
-        generation(first, second)
-    } else {
-        None
+    match (command, first, second) {
+        ("audit", left, right) => Some(Command::Audit { left, right }),
+        ("mend", log, new) => Some(Command::Mend { log, new }),
+        ("migrate", log, new) => Some(Command::Migrate { log, new }),
+        ("check", file, keys) => Some(Command::Check { file, keys }),
+        ("gen", number, rounds) => generation(number, rounds),
+        _ => None,
     }
 }
 
@@ -257,18 +237,11 @@ fn of_three<'w>(
     ensures asked { asked result ≡ of_three command.now first.now second.now third.now }
     ensures range { IfSome result IsInRange }
 {
-    if command == "sim" {
-        simulation(first, second, third)
-    } else if command == "certify" {
-        certification(first, second, third)
-    } else if command == "check" {
-        Some(Command::CheckLog {
-            file: first,
-            keys: second,
-            log: third,
-        })
-    } else {
-        None
+    match (command, first, second, third) {
+        ("sim", number, nodes, steps) => simulation(number, nodes, steps),
+        ("certify", log, block, new) => certification(log, block, new),
+        ("check", file, keys, log) => Some(Command::CheckLog { file, keys, log }),
+        _ => None,
     }
 }
 
