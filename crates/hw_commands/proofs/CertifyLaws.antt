@@ -21,7 +21,7 @@ use Rattle.hw_commands.specs.declared.ended.RunFault.{RunFault}
 use Rattle.hw_commands.specs.declared.ended.RunFault.TheVariants.{Read, Append, OutOfMemory}
 use Rattle.hw_commands.specs.Commands.{Word}
 use Rattle.hw_commands.specs.Texts.{input_ended, limit_ended, clash_ended, stopped_ended}
-use Rattle.hw_commands.specs.Told.{told_ended}
+use Rattle.hw_commands.specs.CertificateEnds.{certify_ended}
 use Rattle.hw_commands.specs.Program.{◌>>=◌, Held, Part, ended, log_replayed, certify_said}
 use Rattle.hw_commands.specs.Faults.{HasReadFault, HasRunFault, IsReadEnd, IsCertifyEnd}
 use Rattle.hw_commands.specs.Files.{status_of}
@@ -33,7 +33,7 @@ use Rattle.hw_commands.proofs.FileLaws.{took_file, replayed, not_replayed}
 
 module _ (held : Held) (old : Word) (block : Digest) (new : Word) where
   abbrev of_replayed : Part Taken → Part Ended
-  of_replayed p = p >>= λ t. Ok (told_ended (told_of t.core block))
+  of_replayed p = p >>= λ t. Ok (certify_ended (told_of t.core block))
 
   abbrev of_target : Option (List ℕ) → Part Ended
   of_target o = elim o as (λ z. Part Ended) [ None ↦ of_replayed (log_replayed held None old) | Some there ↦ Err (input_ended new (codes "exists")) ]
@@ -49,7 +49,7 @@ module _ (held : Held) (old : Word) (block : Digest) (new : Word) where
   said_as absent p is = ap (λ (o : Option (List ℕ)). ended (of_target o)) absent ∙ ap (λ (q : Part Taken). ended (of_replayed q)) is
 
   -- the log was replayed
-  pub said_told : held new ≡ None → (replay : Replay) → Replays None (held old) (Ok replay) → ended (certify_said held old block new) ≡ told_ended (told_of replay.core block)
+  pub said_told : held new ≡ None → (replay : Replay) → Replays None (held old) (Ok replay) → ended (certify_said held old block new) ≡ certify_ended (told_of replay.core block)
   said_told absent replay took = said_as absent (Ok (taken_in replay)) (replayed held None old (taken_in replay) (took_file None (held old) replay took))
 
   -- or it was stopped
@@ -115,7 +115,7 @@ there_not_done name (Err Read) said zero = omega (arith, zero)
 there_not_done name (Err Append) said zero = omega (arith, zero)
 there_not_done name (Err OutOfMemory) said zero = omega (arith, zero)
 
-pub told_end : (told : Outcome) (e : Ended) → e ≡ told_ended told → IsCertifyEnd e.status
+pub told_end : (told : Outcome) (e : Ended) → e ≡ certify_ended told → IsCertifyEnd e.status
 told_end (HasCertificate count) e is = inr (inl (ap (λ (x : Ended). x.status) is))
 told_end NoDecision e is = inl (ap (λ (x : Ended). x.status) is)
 told_end NoStanding e is = inl (ap (λ (x : Ended). x.status) is)
@@ -127,7 +127,7 @@ module _ (new : Word) (before now : Held) where
   kept_so : (IsSo : Certificate → Type 0) (status : ℕ) → status ≢ 0 → SameFiles before now → IsWritten IsSo new status before now
   kept_so IsSo status other same = record { done = λ zero. absurd (other zero); unwritten = λ a b c. same; cut = inl (same new); others = λ name differs. same name }
 
-  not_done : (r : Result Ended RunFault) (told : Outcome) → IfOk r (λ e. e ≡ told_ended told) → IfErr r (λ f. f ≡ OutOfMemory) → (told_ended told).status ≡ 10 → status_of r ≢ 0
+  not_done : (r : Result Ended RunFault) (told : Outcome) → IfOk r (λ e. e ≡ certify_ended told) → IfErr r (λ f. f ≡ OutOfMemory) → (certify_ended told).status ≡ 10 → status_of r ≢ 0
   not_done (Ok e) told said want ten zero = let is : e.status ≡ 10 = ap (λ (x : Ended). x.status) said ∙ ten in let also : e.status ≡ 0 = zero in omega arith
   not_done (Err f) told said want ten zero = let is : status_of (Err f) ≡ 7 = ap (λ (x : RunFault). status_of (Err x)) want in omega (arith, is, zero)
 
@@ -141,7 +141,7 @@ module _ (new : Word) (before now : Held) where
   fault_writes Append other five seven = five refl
   fault_writes OutOfMemory other five seven = seven refl
 
-  pub written : {T : Type 0} (x : T) (answer : Asked) (r : Result Ended RunFault) → IsPut {T = T} answer new (Ok x) before now → IfOk r (λ e. e ≡ told_ended (told_in answer)) → IfErr r (λ f. f ≡ OutOfMemory)
+  pub written : {T : Type 0} (x : T) (answer : Asked) (r : Result Ended RunFault) → IsPut {T = T} answer new (Ok x) before now → IfOk r (λ e. e ≡ certify_ended (told_in answer)) → IfErr r (λ f. f ≡ OutOfMemory)
       → IsWritten (IsAnswered answer) new (status_of r) before now
   written x (asked.Answered (Made made)) r put told want = record {
     done = λ zero. (made, refl, put.whole);
@@ -150,7 +150,7 @@ module _ (new : Word) (before now : Held) where
     others = put.others;
   }
     where
-      go : (r : Result Ended RunFault) → IfOk r (λ e. e ≡ told_ended (HasCertificate (length made.vertices))) → IfErr r (λ f. f ≡ OutOfMemory) → status_of r ≢ 0 → status_of r ≢ 7 → ⊥
+      go : (r : Result Ended RunFault) → IfOk r (λ e. e ≡ certify_ended (HasCertificate (length made.vertices))) → IfErr r (λ f. f ≡ OutOfMemory) → status_of r ≢ 0 → status_of r ≢ 7 → ⊥
       go (Ok e) told want zero seven = zero (ap (λ (x : Ended). x.status) told)
       go (Err f) told want zero seven = seven (ap (λ (x : RunFault). status_of (Err x)) want)
   written x (asked.Answered NotNow) r put told want = kept_so (IsAnswered (asked.Answered NotNow)) (status_of r) (not_done r NoStanding told want refl) put

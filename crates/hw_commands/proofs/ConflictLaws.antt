@@ -15,7 +15,7 @@ use Rattle.hw_replay.specs.Taken.{Taken}
 use Rattle.hw_commands.specs.Commands.{Request}
 use Rattle.hw_commands.specs.Audited.{chains_ended, clash_or, audit_ended}
 use Rattle.hw_commands.specs.Program.{◌>>=◌, Part, ended, audited_against, request_said, run_of}
-use Rattle.hw_commands.specs.Laws.{ConflictIsTold}
+use Rattle.hw_commands.specs.Laws.{ConflictIsReported}
 
 -- ---- a conflict is told
 
@@ -27,9 +27,9 @@ module _ (config : Config) (left right : List Vertex) where
   differing (Some p) is left_longer right_longer = refl
   differing None is left_longer right_longer = elim (no_part (decisions_of (setting_of config) left) (decisions_of (setting_of config) right) is).begins [ inl b ↦ absurd (left_longer b) | inr b ↦ absurd (right_longer b) ]
 
-pub conflict_is_told : ConflictIsTold
+pub conflict_is_reported : ConflictIsReported
 unfolding run_of audit_ended
-conflict_is_told words held left right first second asked first_is second_is none left_longer right_longer =
+conflict_is_reported words held left right first second asked first_is second_is none left_longer right_longer =
     let s = setting_of first.core.config in
     let parting = parting_of (chain_of (decisions_of s first.core.journal)) (chain_of (decisions_of s second.core.journal)) in
     ap (λ (o : Option Request). (ended (request_said held o)).status) asked

@@ -39,7 +39,7 @@ use Rattle.hw_commands.specs.declared.ended.RunFault.TheVariants.{Read, Append, 
 use Rattle.hw_commands.specs.Commands.{Word, Request}
 use Rattle.hw_commands.specs.Texts.{log_text, input_ended, read_fault_ended}
 use Rattle.hw_commands.specs.Scripted.{script_ended}
-use Rattle.hw_commands.specs.Told.{told_ended}
+use Rattle.hw_commands.specs.CertificateEnds.{certify_ended}
 use Rattle.hw_commands.specs.Audited.{audit_ended}
 use Rattle.hw_commands.specs.Program.{◌>>=◌, Held, Part, ended, done, or_stopped, log_replayed, or_misread, or_no_keys, or_unwritten, or_parted, certificate_said, keys_said, answer_said, checked_said, check_said, audited_against, audit_said, audited_with, script_said, rewrite_said, certify_said}
 use Rattle.hw_commands.specs.Faults.{IsReadOf}
@@ -181,7 +181,7 @@ rewritten_due rewritten_of word e empty held old new absent = due_behind_test re
 
 pub certify_due : (held : Held) (old : Word) (block : Digest) (new : Word) → held new ≡ None → IsDue (λ h. certify_said h old block new) held old
 certify_due held old block new absent =
-    due_behind_test (λ o. file_replayed None old o >>= λ t. Ok (told_ended (told_of t.core block))) old new held (goes_on_log None old (λ t. Ok (told_ended (told_of t.core block)))) absent
+    due_behind_test (λ o. file_replayed None old o >>= λ t. Ok (certify_ended (told_of t.core block))) old new held (goes_on_log None old (λ t. Ok (certify_ended (told_of t.core block)))) absent
 
 -- ---- the files of a check
 

@@ -26,7 +26,7 @@ use Rattle.hw_commands.specs.declared.ended.Ended.{Ended}
 use Rattle.hw_commands.specs.Commands.{Word, Request, Replay, Explain, Audit, Script, Mend, Migrate, Certify, Check, Gen, Sim, Eras, EraAudit}
 use Rattle.hw_commands.specs.Texts.{input_ended, read_fault_ended}
 use Rattle.hw_commands.specs.Scripted.{script_ended}
-use Rattle.hw_commands.specs.Told.{told_ended}
+use Rattle.hw_commands.specs.CertificateEnds.{certify_ended}
 use Rattle.hw_commands.specs.Audited.{audit_ended}
 use Rattle.hw_commands.specs.Program.{◌>>=◌, Held, Part, done, report_of, or_unwritten, or_parted, log_replayed, audited_against, audit_said, script_said, rewrite_said, certify_said, yes_said, answer_said, checked_said, check_said, eras_said, era_audit_said, request_said}
 use Rattle.hw_commands.specs.Due.{with_file, FailsDue, FailsOf}
@@ -96,7 +96,7 @@ of_rewritten : (rewritten_of : List ℕ → Result Rewritten LogError) (word : L
 of_rewritten rewritten_of word old new = of_tested (λ o. given o >>= λ bytes. or_unwritten old (rewritten_of bytes) >>= λ r. done (line_of (word ∷ number_text r.count ∷ []))) old new
 
 of_certified : (old : Word) (block : Digest) (new : Word) → HangsOn (old ∷ new ∷ []) (λ h. certify_said h old block new)
-of_certified old block new = of_tested (λ o. file_replayed None old o >>= λ t. Ok (told_ended (told_of t.core block))) old new
+of_certified old block new = of_tested (λ o. file_replayed None old o >>= λ t. Ok (certify_ended (told_of t.core block))) old new
 
 -- the log beside a certificate, if one is named
 abbrev named : Option Word → List Word

@@ -32,7 +32,7 @@ use Rattle.hw_commands.specs.Conflict.{ReportsConflict, ReportsEraConflict}
 use Rattle.hw_commands.specs.Commands.{Word, Request, Replay, Explain, Audit, Script, Mend, Migrate, Certify, Check, Gen, Sim, Eras, EraAudit, request_of}
 use Rattle.hw_commands.specs.Texts.{input_ended, limit_ended, clash_ended, read_fault_ended}
 use Rattle.hw_commands.specs.Audited.{chains_ended, clash_or, audit_ended}
-use Rattle.hw_commands.specs.Told.{told_ended}
+use Rattle.hw_commands.specs.CertificateEnds.{certify_ended}
 use Rattle.hw_commands.specs.Laws.{LogIsAnswered, CheckIsAnswered}
 use Rattle.hw_light.specs.Asked.{Outcome, NoDecision, NoStanding, NoLength, HasCertificate, told_of}
 use Rattle.hw_audit.specs.declared.chains.Parting.{Parting}
@@ -272,7 +272,7 @@ checked_conflict words held file keys against (Err f) asked told alike = tt
 
 -- ---- what is answered
 
-told_status : (told : Outcome) → ((told_ended told).status ≡ 0) ⊎ ((told_ended told).status ≡ 10)
+told_status : (told : Outcome) → ((certify_ended told).status ≡ 0) ⊎ ((certify_ended told).status ≡ 10)
 told_status (HasCertificate count) = inl refl
 told_status NoDecision = inr refl
 told_status NoStanding = inr refl
@@ -282,8 +282,8 @@ pub log_is_answered : LogIsAnswered
 unfolding run_of
 log_is_answered words held name block new t asked absent replayed =
     let said = ap (λ (o : Option Request). ended (request_said held o)) asked
-    ∙ ap (λ (o : Option (List ℕ)). ended (elim o as (λ z. Part Ended) [ None ↦ log_replayed held None name >>= λ t. Ok (told_ended (told_of t.core block)) | Some there ↦ Err (input_ended new (codes "exists")) ])) absent
-    ∙ ap (λ (p : Part Taken). ended (p >>= λ t. Ok (told_ended (told_of t.core block)))) replayed in
+    ∙ ap (λ (o : Option (List ℕ)). ended (elim o as (λ z. Part Ended) [ None ↦ log_replayed held None name >>= λ t. Ok (certify_ended (told_of t.core block)) | Some there ↦ Err (input_ended new (codes "exists")) ])) absent
+    ∙ ap (λ (p : Part Taken). ended (p >>= λ t. Ok (certify_ended (told_of t.core block)))) replayed in
     subst (λ (e : Ended). (e.status ≡ 0) ⊎ (e.status ≡ 10)) (sym said) (told_status (told_of t.core block))
 
 chains_status : (s : Setting) (left right : List Vertex) (o : Option Parting) → IsShown (chains_ended s left right o).status

@@ -5,7 +5,7 @@ pub mod Audited
 pub mod Scripted
 pub mod Workloads
 pub mod Conflict
-pub mod Told
+pub mod CertificateEnds
 pub mod Eras
 pub mod Certified
 pub mod Shown

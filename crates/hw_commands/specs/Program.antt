@@ -34,7 +34,7 @@ use Rattle.hw_eras.specs.Reports.{logs_reported}
 use Rattle.hw_eras.specs.Audits.{logs_audited}
 use Rattle.hw_commands.specs.Audited.{audit_ended}
 use Rattle.hw_commands.specs.Scripted.{script_ended}
-use Rattle.hw_commands.specs.Told.{told_ended, no_ended}
+use Rattle.hw_commands.specs.CertificateEnds.{certify_ended, refused_ended}
 use Rattle.hw_commands.specs.Workloads.{gen_line, sim_line}
 use Rattle.hw_commands.specs.Eras.{eras_ended, era_audit_ended}
 use Rattle.hw_commands.specs.Commands.{Word, Request, Replay, Explain, Audit, Script, Mend, Migrate, Certify, Check, Gen, Sim, Eras, EraAudit, request_of}
@@ -123,10 +123,11 @@ mend_said = rewrite_said mended_of (codes "mended")
 abbrev pub migrate_said : Held → Word → Word → Part Ended
 migrate_said = rewrite_said migrated_of (codes "migrated")
 
--- the line of what is told where the certificate of a block is asked of a log; it is written into a file that isn't there, which is tested first
+-- The line of the answer where the certificate of a block is asked of a log. It is written into a file that isn't
+-- there, which is tested first.
 abbrev pub certify_said : Held → Word → Digest → Word → Part Ended
 certify_said held log block new = elim (held new) [
-  | None ↦ log_replayed held None log >>= λ t. Ok (told_ended (told_of t.core block))
+  | None ↦ log_replayed held None log >>= λ t. Ok (certify_ended (told_of t.core block))
   | Some there ↦ Err (input_ended new (codes "exists"))
 ]
 
@@ -148,7 +149,8 @@ or_no_keys name (Err place) = Err (input_ended name (codes "keys at " ++ number_
 abbrev pub keys_said : Held → Word → ℕ → Part (List (List ℕ))
 keys_said held name validators = file_of held name >>= λ bytes. or_no_keys name (keys_of validators bytes)
 
--- a replay of a log of the certificate's configuration, or the line of what stopped it; another configuration is told of the certificate
+-- A replay of a log of the certificate's configuration, or the line of what stopped it. Where the configuration is
+-- another one, the line names the certificate's file.
 abbrev pub or_parted : Word → Word → Result Taken StartFault → Part Taken
 or_parted file log (Ok t) = Ok t
 or_parted file log (Err start.OtherConfig) = Err (input_ended file (codes "other config"))
@@ -167,12 +169,12 @@ yes_said held file c core (Some log) = audited_with held file c core log
 -- what an answer says
 abbrev pub answer_said : Held → Word → Certificate → Option Word → Checked → Part Ended
 answer_said held file c log (Yes core) = yes_said held file c core log
-answer_said held file c log (No fault) = Err (no_ended fault)
+answer_said held file c log (No fault) = Err (refused_ended fault)
 
 -- what is said of a certificate; no keys are read where its configuration breaks a limit
 abbrev pub checked_said : Held → Word → Word → Option Word → Certificate → Option ConfigFault → Part Ended
 checked_said held file keys log c None = keys_said held keys (length c.config.weights) >>= λ given. answer_said held file c log (checked_of c (verdicts_by given c.vertices))
-checked_said held file keys log c (Some fault) = Err (no_ended (BadLimit fault))
+checked_said held file keys log c (Some fault) = Err (refused_ended (BadLimit fault))
 
 -- the check of a certificate by keys, and the audit of a log that is named, which is read only after a yes
 abbrev pub check_said : Held → Word → Word → Option Word → Part Ended
@@ -212,6 +214,7 @@ request_said held (Some (Sim number nodes steps)) = sim_said number nodes steps
 request_said held (Some (Eras logs)) = eras_said held logs
 request_said held (Some (EraAudit left right)) = era_audit_said held left right
 
--- How a run ends and what it writes, by its words and what the files hold, where nothing of the outside fails and there is memory.
+-- How a run ends and what it writes, by its words and what the files hold. Nothing of the outside fails, and there is
+-- memory.
 unfoldable pub run_of : List Word → Held → Ended
 run_of words held = ended (request_said held (request_of words))

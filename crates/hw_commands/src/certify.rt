@@ -6,7 +6,7 @@ ghost use Rattle.hw_light.specs.{Spelling.{CertificateFits}, Asked.{IfAnswered, 
 ghost use Rattle.hw_commands.specs.Faults.{HasReadFault, HasRunFault, IsCertifyEnd};
 ghost use Rattle.hw_commands.specs.Due.{FailsDue};
 ghost use Rattle.hw_commands.specs.Files.{status_of};
-ghost use Rattle.hw_commands.specs.Told.{told_ended};
+ghost use Rattle.hw_commands.specs.CertificateEnds.{certify_ended};
 ghost use Rattle.hw_commands.specs.Certified.{IsCertified, IsWritten, IsAnswered, IsCertificateOf, IsAppended, IsPut};
 ghost use Rattle.hw_commands.specs.Program.{ended, certify_said};
 ghost use Rattle.hw_commands.specs.declared.ended.RunFault.TheVariants as RunFaults;
@@ -92,7 +92,7 @@ fn certify_node<F: Files>(
     block: &Digest,
     new: &str,
 ) -> Ending
-    ensures said { IfOk result (λ e. e ≡ told_ended (told_of core.old block.now)) }
+    ensures said { IfOk result (λ e. e ≡ certify_ended (told_of core.old block.now)) }
     ensures fault { HasRunFault (F.read_faults files.old) (F.read_faults files.new) (F.append_faults files.old) (F.append_faults files.new) result }
     ensures unread { IfErr result (λ fault. fault ≢ RunFaults.Read) }
     ensures files { IsTrue F.tells → IsWritten (IsCertificateOf core.old block.now) new.now (status_of result) (F.held files.old) (F.held files.new) }
@@ -104,7 +104,7 @@ fn certify_node<F: Files>(
 /// Writes the certificate that was made, if one was, into the file under the word.
 fn write_asked<F: Files>(alloc: Global, files: &mut F, asked: &Asked, new: &str) -> Ending
     requires { IfAnswered CertificateFits asked.now }
-    ensures said { IfOk result (λ e. e ≡ told_ended (told_in asked.now)) }
+    ensures said { IfOk result (λ e. e ≡ certify_ended (told_in asked.now)) }
     ensures fault { HasRunFault (F.read_faults files.old) (F.read_faults files.new) (F.append_faults files.old) (F.append_faults files.new) result }
     ensures unread { IfErr result (λ fault. fault ≢ RunFaults.Read) }
     ensures files { IsTrue F.tells → IsWritten (IsAnswered asked.now) new.now (status_of result) (F.held files.old) (F.held files.new) }
@@ -153,7 +153,7 @@ fn put<F: Files>(
 
 /// How a run ends with this answer.
 fn asked_ended(alloc: Global, asked: &Asked) -> Result<Ended, OutOfMemory>
-    ensures { IfOk result (λ e. e ≡ told_ended (told_in asked.now)) }
+    ensures { IfOk result (λ e. e ≡ certify_ended (told_in asked.now)) }
 {
     let mut text = Bytes::new(alloc);
     put_asked(&mut text, asked)?;
@@ -165,7 +165,7 @@ fn asked_ended(alloc: Global, asked: &Asked) -> Result<Ended, OutOfMemory>
 
 /// The status of an answer.
 fn status_of(asked: &Asked) -> u8
-    ensures { result ≡ (told_ended (told_in asked.now)).status }
+    ensures { result ≡ (certify_ended (told_in asked.now)).status }
 {
     match asked {
         Asked::Answered(Certified::Made(_)) => DONE,

@@ -8,7 +8,7 @@ ghost use Rattle.hw_light.specs.declared.error.CertError.TheVariants as CertErro
 ghost use Rattle.hw_commands.specs.Faults.{HasReadFault, IsReadOf, IsCheckEnd};
 ghost use Rattle.hw_commands.specs.Due.{FailsDue};
 ghost use Rattle.hw_commands.specs.Texts.{input_ended};
-ghost use Rattle.hw_commands.specs.Told.{no_ended};
+ghost use Rattle.hw_commands.specs.CertificateEnds.{refused_ended};
 ghost use Rattle.hw_commands.specs.Shown.{IsAlike, IsAlikeIn};
 ghost use Rattle.hw_commands.specs.Program.{ended, or_misread, certificate_said, or_no_keys, keys_said, answer_said, checked_said, check_said};
 ghost use Rattle.hw_commands.specs.declared.ended.RunFault.TheVariants as RunFaults;
@@ -258,7 +258,7 @@ fn shown_ended(
 
 /// How the run ends where the certificate shows nothing, for this fault.
 fn refused(alloc: Global, fault: CheckFault) -> Result<Ended, OutOfMemory>
-    ensures { IfOk result (λ e. e ≡ no_ended fault) }
+    ensures { IfOk result (λ e. e ≡ refused_ended fault) }
 {
     let mut text = Bytes::new(alloc);
     put_fault(&mut text, fault)?;

@@ -1,9 +1,9 @@
 //! What follows of a run.
 
-ghost use Rattle.hw_commands.specs.Laws.{AuditIsTheVerdict, VerdictIsThere, EraAuditIsTheVerdict, EraVerdictIsThere, ConflictIsTold, ReadsTheSame, LogIsAnswered, CheckIsAnswered};
+ghost use Rattle.hw_commands.specs.Laws.{AuditIsTheVerdict, VerdictIsThere, EraAuditIsTheVerdict, EraVerdictIsThere, ConflictIsReported, ReadsTheSame, LogIsAnswered, CheckIsAnswered};
 
-/// An audit of two logs that can be replayed reports the verdict on what their nodes accepted, with any decided
-/// blocks that the definition allows. There is one on any two journals.
+/// An audit of two logs that can be replayed reports the verdict on what their nodes accepted. The decided blocks are
+/// any that the definition allows. There is a verdict on any two journals.
 pub fn an_audit_tells_the_verdict()
     ensures tells { AuditIsTheVerdict }
     ensures there { VerdictIsThere }
@@ -18,8 +18,8 @@ pub fn an_era_audit_tells_the_verdict()
 
 /// Where two logs report conflicting final blocks, and no two of their units clash, the status is that of a
 /// conflict. So the top call's clause on it holds: culprits that weigh more than the threshold are named.
-pub fn a_conflict_is_told()
-    ensures { ConflictIsTold }
+pub fn a_conflict_is_reported()
+    ensures { ConflictIsReported }
 {}
 
 /// A log that was written anew in version 2 says what the old one says: `replay` and `explain` print the same
@@ -28,8 +28,8 @@ pub fn a_migrated_log_reads_the_same()
     ensures { ReadsTheSame }
 {}
 
-/// With files that can be read, a request about a certificate is answered. By the top call's clause on what is
-/// complete, the status is this one or that of out of memory, where nothing of the outside fails.
+/// With files that can be read, a request about a certificate is answered: the status is one of these. By the top
+/// call's clause `complete` it is that or out of memory, where nothing of the outside fails.
 pub fn certificates_are_answered()
     ensures asked { LogIsAnswered }
     ensures checked { CheckIsAnswered }

@@ -1,9 +1,11 @@
 //! The commands whose end and text are worked out from their words and what the files hold.
 //!
-//! [`command_of`] is the parser of their words, and [`work`] runs them, one module each here, or one with its
-//! like. `specs/Program.antt` says how a run ends and what it writes, and `specs/Files.antt` what it leaves of
-//! the files. Each command is one case in both, and one variant of [`Command`]. `specs/Fed.antt` says what a
-//! command that calls consumers gives them, and which of them its text names.
+//! [`command_of`] is the parser of their words, and [`work`] runs them. Each command has a module here, alone or with
+//! one like it.
+//!
+//! `specs/Program.antt` says how a run ends and what it writes, and `specs/Files.antt` what it leaves of the files.
+//! Each command is one case in both, and one variant of [`Command`]. `specs/Fed.antt` says what a command that calls
+//! consumers gives them, and which of them its text names.
 //!
 //! How a run ends (its status, and the lines of what went wrong) is the same for the commands of nodes, in the crate
 //! above.
@@ -36,7 +38,7 @@ pub use ended::{
 };
 pub use faults::{bad_keys, clash, input, input_end, stopped, usage};
 pub use laws::{
-    a_conflict_is_told, a_migrated_log_reads_the_same, an_audit_tells_the_verdict,
+    a_conflict_is_reported, a_migrated_log_reads_the_same, an_audit_tells_the_verdict,
     an_era_audit_tells_the_verdict, certificates_are_answered,
 };
 pub use words::Words;

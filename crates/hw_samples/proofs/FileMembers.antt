@@ -16,7 +16,7 @@ use Rattle.hw_light.specs.Spelling.{certificate_bytes}
 use Rattle.hw_commands.specs.Commands.{Audit, Certify, Check, request_of}
 use Rattle.hw_commands.specs.Program.{log_replayed, or_stopped}
 use Rattle.hw_commands.specs.Shown.{CanBeChecked, CanBeReplayed}
-use Rattle.hw_commands.proofs.ConflictLaws.{conflict_is_told}
+use Rattle.hw_commands.proofs.ConflictLaws.{conflict_is_reported}
 use Rattle.hw_commands.proofs.ShownLaws.{log_is_answered, check_is_answered}
 use Rattle.hw_samples.specs.Words.{equal_three, unfold_answers, unfold_decisions, unfold_names, unfold_reading}
 use Rattle.hw_samples.specs.RealNames.{a0_name, c0_name, real, real_in_order, real_other_side}
@@ -88,7 +88,7 @@ logs_are_in_conflict = record {
   no_clash = no_clash;
   not_begun = not_begun;
   not_behind = not_behind;
-  told = conflict_is_told audit_words four_files (codes "left") (codes "right") (took_all real_in_order) (took_all real_other_side) asked in_left in_right no_clash not_begun not_behind;
+  told = conflict_is_reported audit_words four_files (codes "left") (codes "right") (took_all real_in_order) (took_all real_other_side) asked in_left in_right no_clash not_begun not_behind;
 }
 
 -- ---- certificates

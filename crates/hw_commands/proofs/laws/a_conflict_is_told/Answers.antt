@@ -1,5 +1,0 @@
-use Rattle.hw_commands.proofs.ConflictLaws.{conflict_is_told}
-use Rattle.hw_commands.proofs.laws.a_conflict_is_told.Goals as goal
-
-pub returns : goal.returns
-returns c = conflict_is_told
