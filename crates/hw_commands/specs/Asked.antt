@@ -25,7 +25,7 @@ abbrev pub asked : Option Command → Option Request
 asked None = None
 asked (Some c) = Some (request c)
 
--- a node has so many logs
+-- a node has 1 to 64 logs
 abbrev pub IsNode : ℕ → Type 0
 IsNode logs = (1 ≤ logs) × (logs ≤ 64)
 

@@ -29,7 +29,7 @@ abbrev pub clash_or : Option UnitPair → Ended → Ended
 clash_or None e = e
 clash_or (Some p) e = clash_ended (unit_bytes p.left) (unit_bytes p.right)
 
--- What two journals say of each other: a clash comes before all else, and otherwise the chains of decided blocks decide.
+-- What two journals say of each other. A clash comes first. Otherwise the chains of decided blocks decide.
 unfoldable pub audit_ended : Setting → List Vertex → List Vertex → Ended
 audit_ended s left right = clash_or (first_of s left right) (chains_ended s left right (parting_of (chain_of (decisions_of s left)) (chain_of (decisions_of s right))))
 

@@ -43,8 +43,8 @@ pub record HoldsCertificatePart (before now : Held) (log : Word) (block : Digest
   pub some : ℕ
   pub holds : bytes_of (now new) ≡ take some (certificate_bytes made)
 
--- With status 0 the new file holds the whole certificate. It may hold a part of it with 5, of a failed append, and with 7, of want of memory;
--- with each other status no file changes. Whatever the status, the other files stay.
+-- With status 0 the new file holds the whole certificate. With 5 (an append failed) and 7 (out of memory) it may hold a
+-- part of it. With each other status no file changes. Whatever the status, the other files stay.
 pub record IsCertified (log : Word) (block : Digest) (new : Word) (status : ℕ) (before now : Held) : Type 0 where
   pub done : status ≡ 0 → HoldsCertificate before now log block new
   pub unwritten : status ≢ 0 → status ≢ 5 → status ≢ 7 → SameFiles before now
@@ -57,7 +57,7 @@ pub record IsCertified (log : Word) (block : Digest) (new : Word) (status : ℕ)
 abbrev pub IsAnswered : Asked → Certificate → Type 0
 IsAnswered answer made = answer ≡ asked.Answered (Made made)
 
--- the same of certificates that are so, behind what the file held
+-- the same of certificates that are so, after what the file held
 pub record IsWritten (IsSo : Certificate → Type 0) (new : Word) (status : ℕ) (before now : Held) : Type 0 where
   pub done : status ≡ 0 → (made : Certificate) × IsSo made × (now new ≡ Some (bytes_of (before new) ++ certificate_bytes made))
   pub unwritten : status ≢ 0 → status ≢ 5 → status ≢ 7 → SameFiles before now

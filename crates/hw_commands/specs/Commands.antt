@@ -32,7 +32,7 @@ abbrev pub is_word : Word → Bool
 is_word [] = false
 is_word (c ∷ cs) = not (c == 45)
 
--- of one word behind the command
+-- of one word after the command
 abbrev pub of_one : Word → Word → Option Request
 of_one command a =
     if bytes_eq command (codes "replay") then Some (Replay a)
@@ -46,7 +46,7 @@ gen_of (Some number) (Some rounds) = if rounds == 0 then None else Some (Gen num
 gen_of (Some number) None = None
 gen_of None rounds = None
 
--- of two words behind the command
+-- of two words after the command
 unfoldable pub of_two : Word → Word → Word → Option Request
 of_two command a b =
     if bytes_eq command (codes "audit") then Some (Audit a b)
@@ -63,7 +63,7 @@ sim_of (Some number) (Some nodes) None = None
 sim_of (Some number) None steps = None
 sim_of None nodes steps = None
 
--- the digest that a word tells by 64 digits in lower case
+-- the digest that a word spells by 64 digits in lower case
 unfoldable pub digest_in_word : Word → Option Digest
 digest_in_word word = if list_all is_lower_digit word then option_map (λ bytes. record { 0 = bytes }) (result_ok (decode_sized word 32)) else None
 
@@ -72,7 +72,7 @@ abbrev pub certify_of : Word → Option Digest → Word → Option Request
 certify_of log None new = None
 certify_of log (Some block) new = Some (Certify log block new)
 
--- of three words behind the command
+-- of three words after the command
 unfoldable pub of_three : Word → Word → Word → Word → Option Request
 of_three command a b c =
     if bytes_eq command (codes "sim") then sim_of (number_below (2 ^ 64) a) (number_below 17 b) (number_below 20001 c)
@@ -80,7 +80,7 @@ of_three command a b c =
     else if bytes_eq command (codes "check") then Some (Check a b (Some c))
     else None
 
--- of at most three words behind the command
+-- of at most three words after the command
 unfoldable pub of_few : Word → List Word → Option Request
 of_few command [] = None
 of_few command (a ∷ []) = of_one command a
@@ -110,7 +110,7 @@ abbrev pub numbered_of : List Word → Option Request
 numbered_of [] = None
 numbered_of (number ∷ logs) = split_at (number_below 65 number) logs
 
--- of these words behind the command
+-- of these words after the command
 abbrev pub of_words : Word → List Word → Option Request
 of_words command words =
     if bytes_eq command (codes "eras") then eras_of words

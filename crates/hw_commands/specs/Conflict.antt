@@ -13,9 +13,9 @@ use Rattle.hw_commands.specs.Commands.{Word, Audit, EraAudit, request_of}
 use Rattle.hw_commands.specs.Eras.{IsEraConflictOf}
 use Rattle.hw_commands.specs.Program.{Held, ended, log_replayed, audited_against}
 
--- The log of this name is in conflict with a node: the two decided different blocks at this height and at none below it;
--- the culprits are all who equivocated, in rising order, each with two signed units; they weigh more than the threshold;
--- and the text tells it.
+-- The log of this name is in conflict with a node. The two decided different blocks at this height and at none below
+-- it. The culprits are all who equivocated, in rising order, each with two signed units. They weigh more than the
+-- threshold. The text is that of this verdict.
 pub record IsConflictWith (held : Held) (left : CoreState) (right : Word) (text : List ℕ) : Type 0 where
   pub second : Taken
   pub second_is : log_replayed held (Some left.config) right ≡ Ok second
@@ -50,7 +50,7 @@ pub record ReportsEraConflict (words : List Word) (held : Held) (text : List ℕ
   pub asked : request_of words ≡ Some (EraAudit left right)
   pub conflict : IsEraConflictOf held left right text
 
--- a log's audit against a node ends as the definitions say, and where that is a conflict, the culprits weigh more than the threshold
+-- a log's audit against a node ends as the definitions say; in a conflict the culprits weigh more than the threshold
 pub record IsAudited (held : Held) (left : CoreState) (right : Word) (e : Ended) : Type 0 where
   pub said : e ≡ ended (audited_against held left right)
   pub conflict : e.status ≡ 3 → IsConflictWith held left right e.text

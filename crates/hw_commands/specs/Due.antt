@@ -10,7 +10,8 @@ use Rattle.hw_commands.specs.Program.{Held, Part, ended, mend_said, migrate_said
 abbrev pub with_file : Held → Word → Option (List ℕ) → Held
 with_file held name file = λ other. if bytes_eq other name then file else held other
 
--- A file is due where a run reads it: were it missing, the run would end with a read fault, and were it empty, with none.
+-- A file is due where a run reads it. Were it missing, the run would end with a read fault. Were it empty, it would
+-- not.
 pub record IsDue (said : Held → Part Ended) (held : Held) (name : Word) : Type 0 where
   pub missing : (ended (said (with_file held name None))).status ≡ 4
   pub empty : (ended (said (with_file held name (Some [])))).status ≢ 4
@@ -19,7 +20,8 @@ pub record IsDue (said : Held → Part Ended) (held : Held) (name : Word) : Type
 abbrev pub FailsDue : (Held → Part Ended) → Held → (List ℕ → ℕ) → (List ℕ → ℕ) → Type 0
 FailsDue said held before now = (name : Word) × IsDue said held name × FailsOrLacks (held name) name before now
 
--- The call that failed was about a file that is due, or tested whether the file that is to be new is there, or a file that is due isn't there.
+-- The call that failed was about a file that is due, or tested whether the file that is to be new is there. Or a file
+-- that is due isn't there.
 abbrev pub FailsOf : Held → Option Request → (List ℕ → ℕ) → (List ℕ → ℕ) → Type 0
 FailsOf held (Some (Mend log new)) before now = Rose (before new) (now new) ⊎ FailsDue (λ h. mend_said h log new) held before now
 FailsOf held (Some (Migrate log new)) before now = Rose (before new) (now new) ⊎ FailsDue (λ h. migrate_said h log new) held before now

@@ -35,15 +35,16 @@ abbrev pub era_audit_ended : Result EraAudit LogStop → Ended
 era_audit_ended (Ok e) = record { status = e.status; text = e.text }
 era_audit_ended (Err s) = logs_stopped s
 
--- the same, by what a run over logs answers; want of memory and a failed read end it in another way
+-- the same, by what a run over logs answers; out of memory and a failed read end it in another way
 abbrev pub EndsBy : EraFault → Ended → Type 0
 EndsBy (stop.NoEra log) e = e ≡ logs_stopped (NoEra log.now)
 EndsBy (stop.Stopped log fault) e = (e ≡ logs_stopped (Stopped log.now fault)) × (IsOutside fault → ⊥)
 EndsBy stop.OutOfMemory e = ⊥
 
--- The eras of two nodes, which these logs leave, are in conflict: they agree before this era, and in this one the two, of one configuration, decided
--- different blocks at this height and at none below it; the culprits are all who equivocated in it, in rising order, each with two signed units;
--- they weigh more than the threshold of this era; and the text tells it.
+-- The eras of two nodes, which these logs leave, are in conflict. They agree before this era. In it the two are of one
+-- configuration, and decided different blocks at this height and at none below it. The culprits are all who equivocated
+-- in it, in rising order, each with two signed units. They weigh more than the threshold of this era. The text is that
+-- of this verdict, after the line of the era.
 pub record IsEraConflictOf (held : Held) (left right : List (List ℕ)) (text : List ℕ) : Type 0 where
   pub lefts : List Taken
   pub lefts_are : eras_of held None left ≡ Ok lefts

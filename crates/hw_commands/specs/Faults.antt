@@ -46,7 +46,7 @@ IsReadOf file name before now (Ok x) = now ≡ before
 IsReadOf file name before now (Err Read) = FailsOrLacks file name before now
 IsReadOf file name before now (Err fault) = Unit {0}
 
--- a command that reads logs does all, or ends by what is wrong with one: its bytes, a limit that it meets, or a clash
+-- a command that reads logs does all, or ends by a fault of one: its bytes, a limit that it meets, or a clash
 abbrev pub IsReadEnd : ℕ → Type 0
 IsReadEnd status = (status ≡ 0) ⊎ (status ≡ 2) ⊎ (status ≡ 8) ⊎ (status ≡ 9)
 

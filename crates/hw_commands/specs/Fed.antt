@@ -1,4 +1,4 @@
--- What the consumers of a run were told, and which of them its text names.
+-- What the consumers of a run received, and which of them its text names.
 -- Source: ours.
 use Rattle.std.specs.Prelude.{◌≡◌, ◌⊎◌, ℕ, Bool, IsTrue, List, [], ◌++◌, length, All, Option, Some, None, Result, Ok}
 use Rattle.std.specs.List.{range_with_len}
@@ -23,7 +23,7 @@ use Rattle.hw_commands.specs.Program.{Held, run_of}
 abbrev pub first_kept : {B : Type 0} → List B → FanoutState B
 first_kept consumers = record { passed = 0; places = range_with_len 0 (length consumers); drops = []; gone = [] }
 
--- it took these blocks and was finished so often, where it tells that
+-- it took these blocks and was finished so often, where it reports that
 abbrev pub HasGot : List (ℕ × List ℕ) → ℕ → Option Consumed → Type 0
 HasGot blocks finishes None = Unit {0}
 HasGot blocks finishes (Some consumed) = consumed ≡ record { pairs = blocks; finishes = finishes }
@@ -32,8 +32,9 @@ HasGot blocks finishes (Some consumed) = consumed ≡ record { pairs = blocks; f
 abbrev pub HaveGot : {B K : Type 0} → Sight B K → List (ℕ × List ℕ) → ℕ → List B → Type 0
 HaveGot sight blocks finishes consumers = All (λ b. HasGot blocks finishes (sight.consumed b)) consumers
 
--- From a node that had received nothing up to this one, the consumers were told the decided blocks as they came; then those that
--- were left were told once that no block follows. The dropped ones are those that answered an error, in the order of dropping.
+-- From a node that had received nothing up to this one, the consumers received the decided blocks as they came. Then
+-- those that were left were called once to say that no block follows. The dropped ones are those that answered an
+-- error, in the order of dropping.
 pub record AreToldAll {B K : Type 0} (sight : Sight B K) (core : CoreState) (old new : List B) (drops : List Dropped) : Type 0 where
   pub fed : List B
   pub kept : FanoutState B
@@ -44,7 +45,8 @@ pub record AreToldAll {B K : Type 0} (sight : Sight B K) (core : CoreState) (old
   -- handed in with nothing taken, each one left took the whole decided chain and was finished once
   pub took : HaveGot sight [] 0 old → HaveGot sight (told_chain core) 1 new
 
--- They were told the blocks up to the node that the log's entries before the one that stopped it so left, and not that none follows.
+-- The log's entries before the one that stopped it so left a node. They received the blocks up to it, and no call that
+-- says that none follows.
 pub record AreToldSome {B K : Type 0} (sight : Sight B K) (tells : Bool) (log : Option (List ℕ)) (e : StartFault) (old new : List B) : Type 0 where
   pub kept : FanoutState B
   pub part : AreFedTo sight tells (file_begun None log) e (λ (core : CoreState). first_moment core.config old (first_kept old)) new kept
@@ -55,7 +57,7 @@ pub record AreToldSome {B K : Type 0} (sight : Sight B K) (tells : Bool) (log : 
 
 -- ---- a replay, by what the file's bytes leave of a node
 
--- it came to its report: they were told all that this node decided
+-- it came to its report: they received all that this node decided
 pub record AreToldOf {B K : Type 0} (sight : Sight B K) (tells : Bool) (whole : Result Taken StartFault) (old new : List B) (drops : List Dropped) : Type 0 where
   pub taken : Taken
   pub leaves : IsTrue tells → whole ≡ Ok taken
@@ -66,12 +68,12 @@ pub record AreToldNone {B : Type 0} (tells : Bool) (log : Option (List ℕ)) (e 
   pub none : IsTrue tells → IsOutside e ⊎ (file_begun None log ≡ None)
   pub same : new ≡ old
 
--- it stopped so before its report: they were told none, or some
+-- it stopped so before its report: they received no block, or some
 abbrev pub AreCutOff : {B K : Type 0} → Sight B K → Bool → Option (List ℕ) → StartFault → List B → List B → Type 0
 AreCutOff sight tells log e old new = AreToldNone tells log e old new ⊎ AreToldSome sight tells log e old new
 
--- By the status: 0 and 5 come only behind the report, 2, 4, 8 and 9 only before it, and want of memory at any moment. With 2, 8 and 9 it is
--- the log that stopped it, and not the outside.
+-- By the status: 0 and 5 come only after the report, and 2, 4, 8 and 9 only before it. Out of memory comes at any
+-- moment. With 2, 8 and 9 it is the log that stopped it, and not the outside.
 pub record IsReplayTold {B K : Type 0} (sight : Sight B K) (tells : Bool) (log : Option (List ℕ)) (status : ℕ) (old new : List B) : Type 0 where
   pub all : (status ≡ 0) ⊎ (status ≡ 5) → (drops : List Dropped) × AreToldOf sight tells (file_replayed None log) old new drops
   pub some : (status ≡ 2) ⊎ (status ≡ 4) ⊎ (status ≡ 8) ⊎ (status ≡ 9) → (e : StartFault) × (IsOutside e → status ≡ 4) × AreCutOff sight tells log e old new
@@ -105,6 +107,6 @@ abbrev pub IsTextFor : {B K : Type 0} → Sight B K → Bool → Option Request 
 IsTextFor sight tells (Some (Replay log)) held said old new text = IsReplayText sight tells (file_replayed None (held log)) said old new text
 IsTextFor sight tells request held said old new text = text ≡ said.text
 
--- The text of a run: what words and bytes say, and behind a report the lines of the consumers that were dropped.
+-- The text of a run: what words and bytes say, and after a report the lines of the consumers that were dropped.
 abbrev pub IsTextOf : {B K : Type 0} → Sight B K → Bool → List Word → Held → List B → List B → List ℕ → Type 0
 IsTextOf sight tells words held old new text = IsTextFor sight tells (request_of words) held (run_of words held) old new text

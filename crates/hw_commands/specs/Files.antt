@@ -20,9 +20,9 @@ status_of (Err Read) = 4
 status_of (Err Append) = 5
 status_of (Err OutOfMemory) = 7
 
--- With status 0 the log was there, the new file wasn't, and it holds the log written anew, all of it. With 2 and 4 no file
--- changes. With each other status the new file is as it was, or, where it wasn't there, holds a part of the log written anew,
--- from the first byte on. Whatever the status, the other files stay.
+-- With status 0 the log was there, the new file wasn't, and it holds the whole log written anew. With 2 and 4 no file
+-- changes. With each other status the new file is as it was. Or it wasn't there, and holds a part of the log written
+-- anew, from the first byte on. Whatever the status, the other files stay.
 pub record IsRewrite (rewritten_of : List ℕ → Result Rewritten LogError) (log new : Word) (status : ℕ) (before now : Held) : Type 0 where
   pub done : status ≡ 0 → (count : ℕ) × HasRewritten rewritten_of (before log) (before new) (now new) count
   pub unwritten : (status ≡ 2) ⊎ (status ≡ 4) → SameFiles before now

@@ -5,12 +5,14 @@ use Rattle.hw_io.specs.Faults.{Rose}
 use Rattle.hw_io.specs.Sinks.{AppendsPrefix}
 use Rattle.hw_commands.specs.Texts.{read_fault_line, append_fault_line, out_of_memory_line}
 
--- 0 all was done, 1 the words, 2 a file's bytes or a file that is to be new, 3 a conflict, 4 a read, 5 a write or an append, 7 memory, 8 a limit, 9 a clash,
--- 10 no certificate, or none that shows anything
+-- The status of a command that is worked out. 0: all was done. 1: the words. 2: a file's bytes, or a file that is to be
+-- new. 3: a conflict. 4: a read. 5: a write or an append. 7: out of memory. 8: a limit. 9: a clash. 10: no certificate,
+-- or none that shows anything.
 abbrev pub IsWorkedStatus : ℕ → Type 0
 IsWorkedStatus status = (status ≡ 0) ⊎ (status ≡ 1) ⊎ (status ≡ 2) ⊎ (status ≡ 3) ⊎ (status ≡ 4) ⊎ (status ≡ 5) ⊎ (status ≡ 7) ⊎ (status ≡ 8) ⊎ (status ≡ 9) ⊎ (status ≡ 10)
 
--- of a run of a node: 0 all was done, 1 the words, 2 a file's bytes, 4 a read, 5 a write or an append, 6 a link, 7 memory, 8 a limit, 9 a clash
+-- The status of a run of a node. 0: all was done. 1: the words. 2: a file's bytes. 4: a read. 5: a write or an append.
+-- 6: a link. 7: out of memory. 8: a limit. 9: a clash.
 abbrev pub IsServiceStatus : ℕ → Type 0
 IsServiceStatus status = (status ≡ 0) ⊎ (status ≡ 1) ⊎ (status ≡ 2) ⊎ (status ≡ 4) ⊎ (status ≡ 5) ⊎ (status ≡ 6) ⊎ (status ≡ 7) ⊎ (status ≡ 8) ⊎ (status ≡ 9)
 
@@ -40,13 +42,13 @@ pub record Output : Type 0 where
   pub faults : ℕ
   pub wants : ℕ
 
--- all of the line for want of memory was taken, or a prefix of it where a write failed or found no memory
+-- all of the line for out of memory was taken, or a prefix of it where a write failed or found no memory
 abbrev pub WritesMemoryLine : Output → Output → Type 0
 WritesMemoryLine old new =
     Appends old.taken new.taken out_of_memory_line
     ⊎ ((Rose old.faults new.faults ⊎ Rose old.wants new.wants) × AppendsPrefix old.taken new.taken out_of_memory_line)
 
--- a write found no memory: a prefix of the text was taken, and then a prefix of the line for want of memory
+-- a write found no memory: a prefix of the text was taken, and then a prefix of the line for out of memory
 abbrev pub WritesToNoMemory : Output → Output → List ℕ → Type 0
 WritesToNoMemory old new text = Rose old.wants new.wants × ((n m : ℕ) × Appends old.taken new.taken (take n text ++ take m out_of_memory_line))
 
@@ -66,8 +68,8 @@ EndsWithoutMemory old new is_text = WritesMemoryLine old new ⊎ (((text : List 
 abbrev pub EndsAppending : Output → Output → (List ℕ → Type 0) → ℕ → ℕ → Type 0
 EndsAppending old new is_text appends_before appends = EndsWithoutMemory old new is_text ⊎ (Rose appends_before appends × WritesToNoMemory old new append_fault_line)
 
--- How a run that has this status and text ends: the text is written whole; or a write failed, and a run that had done all
--- says so; or a write found no memory.
+-- How a run that has this status and text ends. The text is written whole. Or a write failed, and a run that had done
+-- all says so. Or a write found no memory.
 abbrev pub Finishes : ℕ → List ℕ → ℕ → Output → Output → Type 0
 Finishes status text result old new =
     ((result ≡ status) × Appends old.taken new.taken text)

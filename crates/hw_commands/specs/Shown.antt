@@ -23,8 +23,8 @@ use Rattle.hw_commands.specs.Program.{Held}
 abbrev pub IsShown : ℕ → Type 0
 IsShown status = (status ≡ 0) ⊎ (status ≡ 3) ⊎ (status ≡ 9)
 
--- The one file holds this certificate, whose vertices alone make its block stand, for this node of them, while the faulty weigh no more than the
--- threshold; the other file holds keys; and by these the signatures of each vertex are right.
+-- The one file holds this certificate, and the other file holds keys. By these the signatures of each vertex are right.
+-- This is the node of its vertices, which alone finalize its block while the faulty weigh no more than the threshold.
 pub record IsShownBy (held : Held) (file keys : Word) (certificate : Certificate) (core : CoreState) : Type 0 where
   pub bytes : List ℕ
   pub there : held file ≡ Some bytes
@@ -56,9 +56,9 @@ abbrev pub IfChecks : (Word → Word → Type 0) → Option Request → Type 0
 IfChecks P (Some (Check file keys log)) = P file keys
 IfChecks P request = Unit {0}
 
--- The words ask for a check against a log, and the log's node and the certificate's, of one configuration, are in conflict: the two decided different
--- blocks at this height and at none below it; the culprits are all who equivocated, in rising order, each with two signed units; they weigh more than
--- the threshold; and the text tells it.
+-- The words ask for a check against a log. The log's node and the certificate's, of one configuration, are in conflict.
+-- The two decided different blocks at this height and at none below it. The culprits are all who equivocated, in rising
+-- order, each with two signed units. They weigh more than the threshold. The text is that of this verdict.
 pub record ContradictsCertificate (words : List Word) (held : Held) (text : List ℕ) : Type 0 where
   pub file : Word
   pub keys : Word

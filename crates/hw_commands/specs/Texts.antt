@@ -61,7 +61,7 @@ read_fault_ended = record { status = 4; text = read_fault_line }
 abbrev pub append_fault_line : List ℕ
 append_fault_line = codes "append fault" ++ line_feed
 
--- 7: there was no memory
+-- 7: out of memory
 abbrev pub out_of_memory_line : List ℕ
 out_of_memory_line = codes "out of memory" ++ line_feed
 

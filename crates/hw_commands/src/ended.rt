@@ -26,7 +26,7 @@ pub const WRITE_FAULT: u8 = 5;
 /// A call of a link failed in a session of a node's run, which went on.
 pub const LINK_FAULT: u8 = 6;
 
-/// There was no memory.
+/// Out of memory.
 pub const OUT_OF_MEMORY: u8 = 7;
 
 /// An entry of a log met a limit, or a vertex or an own unit of a node's run did.
@@ -52,7 +52,7 @@ pub enum RunFault {
     Read,
     /// An append to a file failed.
     Append,
-    /// There was no memory.
+    /// Out of memory.
     OutOfMemory,
 }
 

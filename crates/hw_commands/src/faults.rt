@@ -20,7 +20,7 @@ use hw_text::{end_line, put_numbered, put_word};
 use hw_types::{Bytes, OutOfMemory};
 use std::alloc::Global;
 
-/// The words aren't in the grammar.
+/// The end of a run whose words aren't in the grammar: the line of the usage.
 pub fn usage(alloc: Global) -> Result<Ended, OutOfMemory>
     ensures { IfOk result (λ ended. ended ≡ record { status = 1; text = usage_line }) }
 {
@@ -32,7 +32,7 @@ pub fn usage(alloc: Global) -> Result<Ended, OutOfMemory>
     })
 }
 
-/// The bytes of the file under this name.
+/// The bytes of the file under this name. Where a read fails, or there is no such file, it is `RunFault::Read`.
 pub fn bytes_of<F: Files>(alloc: Global, files: &mut F, name: &str) -> Result<Bytes, RunFault>
     ensures whole { IsTrue F.tells → IfOk result (λ bytes. F.held files.old name.now ≡ Some bytes) }
     ensures fault { HasReadFault (F.read_faults files.old) (F.read_faults files.new) result }
@@ -48,7 +48,7 @@ pub fn bytes_of<F: Files>(alloc: Global, files: &mut F, name: &str) -> Result<By
     }
 }
 
-/// The replay of the log under this name stopped.
+/// How a run ends where the replay of the log under this name stopped. A failed read and out of memory are faults.
 pub fn stopped(alloc: Global, name: &str, fault: StartFault) -> Ending
     ensures said { IfOk result (λ ended. (ended ≡ stopped_ended name.now fault) × IsReadEnd ended.status × (IsOutside fault → ⊥)) }
     ensures cause { (before now : ℕ) → IsReplayCounted {T = Unit {0}} before now (Err fault) → IsReadCounted before now result }
@@ -65,7 +65,7 @@ pub fn stopped(alloc: Global, name: &str, fault: StartFault) -> Ending
     }
 }
 
-/// The log under this name can't be read on.
+/// How a run ends where the log under this name can't be read on.
 fn unread(alloc: Global, name: &str, error: LogError) -> Ending
     ensures said { IfOk result (λ ended. (ended ≡ stopped_ended name.now (StartFaults.Log error)) × IsReadEnd ended.status × (IsOutside (StartFaults.Log error) → ⊥)) }
     ensures cause { (before now : ℕ) → IsReplayCounted {T = Unit {0}} before now (Err (StartFaults.Log error)) → IsReadCounted before now result }
@@ -79,28 +79,28 @@ fn unread(alloc: Global, name: &str, error: LogError) -> Ending
     }
 }
 
-/// The log can't be read on, because of what is in it.
+/// The end of a run whose log can't be read on, because of what is in it.
 pub fn bad_log(alloc: Global, name: &str, error: LogError) -> Result<Ended, OutOfMemory>
     ensures { IfOk result (λ ended. ended ≡ input_ended name.now (log_text error)) }
 {
     bad_input(alloc, name, Wrong::Log(error))
 }
 
-/// The log is of another configuration than the one that is wanted.
+/// The end of a run whose log is of another configuration than the one that is wanted.
 pub fn other_config(alloc: Global, name: &str) -> Result<Ended, OutOfMemory>
     ensures { IfOk result (λ ended. ended ≡ input_ended name.now (codes "other config")) }
 {
     bad_input(alloc, name, Wrong::Words("other config"))
 }
 
-/// The byte at this place of the keys is wrong.
+/// The end of a run where the byte at this place of the keys is wrong.
 pub fn bad_keys(alloc: Global, name: &str, place: u64) -> Result<Ended, OutOfMemory>
     ensures { IfOk result (λ e. e ≡ input_ended name.now (codes "keys at " ++ number_text place)) }
 {
     bad_input(alloc, name, Wrong::Numbered("keys at ", place))
 }
 
-/// This is wrong with the file under this name.
+/// The end of a run where this is wrong with the file under this name.
 #[tactic(auto, using(std::proofs::Common::append_assoc), unfolding(crate::specs::Texts::input_ended))]
 pub fn bad_input(alloc: Global, name: &str, wrong: Wrong<'_>) -> Result<Ended, OutOfMemory>
     ensures { IfOk result (λ ended. ended ≡ input_ended name.now (wrong_text wrong.entry)) }
@@ -121,7 +121,7 @@ pub fn input(alloc: Global, name: &str) -> Result<Bytes, OutOfMemory>
     Ok(text)
 }
 
-/// The run ends with this line, which names a file's fault and lacks its end.
+/// The end of a run with this line, which names a file's fault and lacks its line feed.
 pub fn input_end(mut text: Bytes) -> Result<Ended, OutOfMemory>
     ensures { IfOk result (λ ended. ended ≡ record { status = 2; text = text ++ line_feed }) }
 {
@@ -132,7 +132,7 @@ pub fn input_end(mut text: Bytes) -> Result<Ended, OutOfMemory>
     })
 }
 
-/// The entry at this byte met a limit, which the words name.
+/// The end of a run where the entry at this byte met a limit, which the words name.
 fn limit(alloc: Global, words: &str, at: u64) -> Result<Ended, OutOfMemory>
     ensures { IfOk result (λ ended. ended ≡ record { status = 8; text = words.now ++ number_text at ++ line_feed }) }
 {
@@ -145,7 +145,7 @@ fn limit(alloc: Global, words: &str, at: u64) -> Result<Ended, OutOfMemory>
     })
 }
 
-/// Two different units have one digest; the known one is written first.
+/// The end of a run where two different units have one digest. The known one is written first.
 #[tactic(auto, using(std::proofs::Common::append_assoc), unfolding(crate::specs::Texts::clash_ended, hw_text::specs::Lines::line_of))]
 pub fn clash(alloc: Global, known: &Bytes, other: &Bytes) -> Result<Ended, OutOfMemory>
     ensures { IfOk result (λ ended. ended ≡ clash_ended known.now other.now) }

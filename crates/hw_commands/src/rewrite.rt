@@ -16,7 +16,7 @@ use hw_text::{end_line, put_numbered};
 use hw_types::{Bytes, OutOfMemory};
 use std::alloc::Global;
 
-/// Writes the whole entries of the log under the one word into a new file under the other, and says how the
+/// Writes the whole entries of the log under the one word into a new file under the other, and answers how the
 /// run ends.
 pub fn mended<F: Files>(alloc: Global, files: &mut F, log: &str, new: &str) -> Ending
     ensures said { IsTrue F.tells → IfOk result (λ e. e ≡ ended (mend_said (F.held files.old) log.now new.now)) }
@@ -31,7 +31,7 @@ pub fn mended<F: Files>(alloc: Global, files: &mut F, log: &str, new: &str) -> E
     }
 }
 
-/// Writes the log under the one word in version 2 into a new file under the other, and says how the run ends.
+/// Writes the log under the one word in version 2 into a new file under the other, and answers how the run ends.
 pub fn migrated<F: Files>(alloc: Global, files: &mut F, log: &str, new: &str) -> Ending
     ensures said { IsTrue F.tells → IfOk result (λ e. e ≡ ended (migrate_said (F.held files.old) log.now new.now)) }
     ensures status { IfOk result (λ e. IsReadEnd e.status) }
@@ -46,7 +46,7 @@ pub fn migrated<F: Files>(alloc: Global, files: &mut F, log: &str, new: &str) ->
     }
 }
 
-/// The line of what was done.
+/// The end of a run that did all, with the line of what was done.
 fn count_ended(alloc: Global, words: &str, count: u64) -> Ending
     ensures said { IfOk result (λ e. e ≡ record { status = 0; text = words.now ++ number_text count ++ line_feed }) }
     ensures fault { IfErr result (λ fault. fault ≡ RunFaults.OutOfMemory) }
@@ -57,7 +57,7 @@ fn count_ended(alloc: Global, words: &str, count: u64) -> Ending
     Ok(Ended { status: DONE, text })
 }
 
-/// Why nothing was written anew.
+/// How a run ends that wrote nothing anew.
 fn unwritten(alloc: Global, log: &str, new: &str, fault: RewriteFault) -> Ending
     ensures said { IfOk result (λ e. IsUnwritten log.now new.now fault e) }
     ensures fault { IfErr result (IsFaultOf fault) }
@@ -71,7 +71,7 @@ fn unwritten(alloc: Global, log: &str, new: &str, fault: RewriteFault) -> Ending
     }
 }
 
-/// The file that was to be new is there.
+/// The end of a run where the file that was to be new is there.
 pub fn there(alloc: Global, name: &str) -> Result<Ended, OutOfMemory>
     ensures { IfOk result (λ ended. ended ≡ input_ended name.now (codes "exists")) }
 {

@@ -32,8 +32,10 @@ use crate::workloads::{generated, simulated};
 use hw_io::{Consumer, Files, IoFault, Sink, write_all};
 use std::alloc::Global;
 
+/// The line of a read that failed.
 pub const READ_FAULT_LINE: &str = "read fault\n";
 
+/// The line of an append that failed.
 pub const APPEND_FAULT_LINE: &str = "append fault\n";
 
 const OUT_OF_MEMORY_LINE: &str = "out of memory\n";
@@ -42,7 +44,9 @@ const OUT_OF_MEMORY_LINE: &str = "out of memory\n";
 /// is written.
 ///
 /// Its text is made whole before the first byte of it is written. A fault has one line, which is written if the
-/// output takes it. The words are those that ask for the command; they are for the prover alone.
+/// output takes it.
+///
+/// For the prover: the words are those that ask for the command. The clauses are about them.
 pub fn work<F: Files, S: Sink>(
     alloc: Global,
     words: &Words,
@@ -60,14 +64,14 @@ pub fn work<F: Files, S: Sink>(
     ensures usage { result ≡ 1 → request_of words.now ≡ None }
     ensures grammar { request_of words.now ≡ None → (result ≡ 1) ⊎ (result ≡ 7) }
 
-    // 4 and 5 come only where a count of faults rose in this run, 4 only where a call about a file that is due
-    // failed or such a file isn't there, and 5 only in place of a text that was whole.
+    // 4 and 5 come only where a count of faults rose in this run. 4 comes only where a call about a file that is due
+    // failed, or such a file isn't there. With 5 the text was whole, or an append failed.
     ensures read_fault { result ≡ 4 → Rose (F.read_faults files.old) (F.read_faults files.new) }
     ensures read_about { IsTrue F.tells → result ≡ 4 → FailsOf (F.held files.old) (request_of words.now) (F.faults_about files.old) (F.faults_about files.new) }
     ensures write_fault { result ≡ 5 → Rose (S.faults out.old) (S.faults out.new) ⊎ Rose (F.append_faults files.old) (F.append_faults files.new) }
     ensures unwritten { IsTrue F.tells → result ≡ 5 → IsDone (run_of words.now (F.held files.old)).status ⊎ Rose (F.append_faults files.old) (F.append_faults files.new) }
 
-    // A read or an append that failed is reported: with each other status its count is what it was, unless the
+    // A read or an append that failed is reported. With each other status its count is what it was, unless the
     // output found no memory.
     ensures reads { result ≢ 4 → (F.read_faults files.new ≡ F.read_faults files.old) ⊎ ((result ≡ 7) × Rose (S.wants out.old) (S.wants out.new)) }
     ensures appended { result ≢ 5 → (F.append_faults files.new ≡ F.append_faults files.old) ⊎ ((result ≡ 7) × Rose (S.wants out.old) (S.wants out.new)) }
@@ -77,11 +81,11 @@ pub fn work<F: Files, S: Sink>(
     ensures complete { IsTrue F.tells → (Rose (F.read_faults files.old) (F.read_faults files.new) → ⊥) → (Rose (S.faults out.old) (S.faults out.new) → ⊥) → OnlyReads (request_of words.now) ⊎ (Rose (F.append_faults files.old) (F.append_faults files.new) → ⊥) → (result ≡ (run_of words.now (F.held files.old)).status) ⊎ (result ≡ 7) }
     ensures allowed { IsTrue F.tells → IsAllowed (request_of words.now) (F.held files.old) → (Rose (F.read_faults files.old) (F.read_faults files.new) → ⊥) → (Rose (S.faults out.old) (S.faults out.new) → ⊥) → (Rose (F.append_faults files.old) (F.append_faults files.new) → ⊥) → (result ≡ 0) ⊎ (result ≡ 7) }
 
-    // Where two logs, a log and a certificate, or the eras of two nodes report conflicting final blocks, the audit
+    // With 3 two logs, a log and a certificate, or the eras of two nodes report conflicting final blocks. The audit
     // names culprits, each by two signed units, and they weigh more than the threshold.
     ensures conflict { IsTrue F.tells → result ≡ 3 → ReportsConflict words.now (F.held files.old) (run_of words.now (F.held files.old)).text ⊎ ContradictsCertificate words.now (F.held files.old) (run_of words.now (F.held files.old)).text ⊎ ReportsEraConflict words.now (F.held files.old) (run_of words.now (F.held files.old)).text }
 
-    // Where a check has one of these statuses, the certificate's vertices alone make its block stand, and by the keys
+    // Where a check has one of these statuses, the certificate's vertices alone finalize its block, and by the keys
     // each is signed.
     ensures certified { IsTrue F.tells → IsShown result → IfChecks (ShowsCertificate (F.held files.old)) (request_of words.now) }
 
@@ -114,7 +118,9 @@ pub fn work<F: Files, S: Sink>(
     }
 }
 
-/// Runs the command up to its text. The words are those that ask for it; they are for the prover alone.
+/// Runs the command up to its text.
+///
+/// For the prover: the words are those that ask for the command. The clauses are about them.
 #[tactic(auto, using(crate::proofs::AuditLaws::no_conflict, crate::proofs::AuditLaws::no_conflict_asked, crate::proofs::AuditLaws::reports), unfolding(crate::specs::Program::run_of))]
 fn run<F: Files>(
     alloc: Global,
