@@ -7,8 +7,7 @@
 //! Each command is one case in both, and one variant of [`Command`]. `specs/Fed.antt` says what a command that calls
 //! consumers gives them, and which of them its text names.
 //!
-//! How a run ends (its status, and the lines of what went wrong) is the same for the commands of nodes, in the crate
-//! above.
+//! How a run ends (its status, and the lines of what went wrong) is the same for the commands of nodes.
 #![tactic(auto)]
 
 mod audit;
