@@ -32,7 +32,7 @@ names_of s = record { config = s.config.now; keys = s.keys.now; log = s.log.now 
 
 -- ---- what is read
 
--- what the settings in a file say, if it is there
+-- the configuration in the settings of a file, if it exists
 abbrev pub file_settings : Option (List ℕ) → Option (Result Config SettingsFault)
 file_settings (Some bytes) = Some (settings_of bytes)
 file_settings None = None
@@ -47,17 +47,17 @@ abbrev pub HoldsFault : ℕ → Option (List ℕ) → ℕ → Type 0
 HoldsFault validators (Some bytes) place = IsFirstFault validators bytes place
 HoldsFault validators None place = ⊥
 
--- no validator is asked for, or one of the configuration
+-- no validator is asked for, or one that is in the configuration
 abbrev pub IsValidator : Option ℕ → Config → Type 0
 IsValidator None config = Unit {0}
 IsValidator (Some me) config = me < length config.weights
 
--- one is asked for that is none
+-- one is asked for that isn't in it
 abbrev pub IsNoValidator : Option ℕ → Config → Type 0
 IsNoValidator None config = ⊥
 IsNoValidator (Some me) config = length config.weights ≤ me
 
--- The settings say this configuration, of which the validator is one, and these are the keys.
+-- The settings give this configuration, which has the validator, and these are the keys.
 pub record Reads (tells : Bool) (names : Names) (me : Option ℕ) (files : List ℕ → Option (List ℕ)) (config : Config) (keys : List (List ℕ)) : Type 0 where
   pub settings : IsTrue tells → file_settings (files names.config) ≡ Some (Ok config)
   pub validator : IsValidator me config
@@ -78,8 +78,8 @@ ReadsNot tells names me files fault.Write = ⊥
 
 -- ---- a node that has begun
 
--- The node is the one that its settings, its keys and its log give, and the consumers were told what was decided after each entry of the
--- log. A new log was begun where there was none.
+-- The node is the one that its settings, its keys and its log give. After each entry of the log the consumers were
+-- passed what was decided. A new log was begun where there was none.
 pub record HasBegun {B K : Type 0} (sight : Sight B K) (tells : Bool) (names : Names) (me : Option ℕ) (before : Outside B) (now : Scene B) : Type 0 where
   pub reads : Reads tells names me before.files now.node.core.config now.node.keys
   pub starts : IsTrue tells → Starts now.node.core.config now.node.keys names.log (before.files names.log) (Ok now.node)
@@ -97,8 +97,8 @@ pub record StaysAs {B : Type 0} (before after : Outside B) : Type 0 where
   pub written : after.written ≡ before.written
   pub consumers : after.consumers ≡ before.consumers
 
--- Settings and keys were read, and the log gave no node. The consumers were told what was decided after each entry
--- before the one that stopped it, and after none that stands behind.
+-- Settings and keys were read, and the log gave no node. The consumers were passed what was decided after each entry
+-- before the one that stopped it, and after no later one.
 pub record StartFails {B K : Type 0} (sight : Sight B K) (tells : Bool) (names : Names) (me : Option ℕ) (before after : Outside B) (e : StartFault) : Type 0 where
   pub config : Config
   pub keys : List (List ℕ)
@@ -111,7 +111,7 @@ pub record StartFails {B K : Type 0} (sight : Sight B K) (tells : Bool) (names :
   pub door : after.door ≡ before.door
   pub written : after.written ≡ before.written
 
--- what that is answered as
+-- the answer for that
 abbrev pub fault_of_start : StartFault → ServiceFault
 fault_of_start (start.Log log.ReadFault) = fault.Read
 fault_of_start (start.Log log.WriteFault) = fault.Append

@@ -24,12 +24,12 @@ abbrev pub IsReadAbout : {T : Type 0} → Option (List ℕ) → (List ℕ → �
 IsReadAbout name before now (Err fault.Read) = FailsAbout name before now
 IsReadAbout name before now _ = now ≡ before
 
--- the count of the door rose where a call of it failed in a session, and is as it was where none did
+-- the count of the door rose exactly when a call of it failed in a session
 abbrev pub IsDoorCounted : Bool → ℕ → ℕ → Type 0
 IsDoorCounted true before now = Rose before now
 IsDoorCounted false before now = now ≡ before
 
--- raised so many times
+-- raised this number of times
 unfoldable pub raised_by : ℕ → ℕ → ℕ
 raised_by zero count = count
 raised_by (suc more) count = raised (raised_by more count)

@@ -5,7 +5,7 @@ use Rattle.hw_link.specs.declared.end.SessionEnd.TheVariants as session
 use Rattle.hw_meeting_node.specs.declared.end.MeetEnd.{MeetEnd}
 use Rattle.hw_meeting_node.specs.declared.end.MeetEnd.TheVariants as end
 
--- how the session ends of a meeting that ends so; how many vertices were refused isn't told
+-- the end of the session whose meeting has this end, without the number of refused vertices
 abbrev pub session_end : MeetEnd → SessionEnd
 session_end (end.Done refused) = session.Done
 session_end end.EndOfInput = session.EndOfInput

@@ -14,6 +14,6 @@ use Rattle.hw_service.specs.Run.{StepOver, Course, course, Runner, Runs}
 abbrev pub holds_session : {B K : Type 0} → Sight B K → Talks → List ℕ → StepOver B (Unit {0})
 holds_session sight talks who number old new result = HoldsSession sight talks who number old.0 new.0 result
 
--- What a run comes to that holds so many sessions, numbered from this one on. No validator makes units in it.
+-- The outcome of a run that holds this number of sessions, numbered from this one on. No validator makes units in it.
 abbrev pub Holds : {B K : Type 0} → Runner B K → Talks → List ℕ → ℕ → ℕ → Outside B → Outside B → Result Served ServiceFault → Type 0
 Holds run talks who first count before after result = Runs run (course (holds_session run.sight talks who) first count) (before, tt) (after, tt) result

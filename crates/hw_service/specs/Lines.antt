@@ -26,7 +26,7 @@ end_words end.OutOfMemory = []
 abbrev pub line_of_end : List ℕ → ℕ → SessionEnd → List ℕ
 line_of_end who number e = line_of (who ∷ number_text number ∷ end_words e ∷ [])
 
--- The line of a session that ended otherwise than as Done. One that ends the run has none.
+-- The line of a session that didn't end as Done. A session that ends the run has no line.
 unfoldable pub end_line : List ℕ → ℕ → SessionEnd → List ℕ
 end_line who number end.EndOfInput = line_of_end who number end.EndOfInput
 end_line who number end.WrongInstance = line_of_end who number end.WrongInstance

@@ -36,7 +36,7 @@ after_meeting side n bytes = after_all n (vertices_of side n bytes)
 
 -- ---- what is left
 
--- it stands where the first of these bytes leave it, with its log
+-- the node and its log are as the first of these bytes leave them
 pub record StandsBefore (side : Side) (n : NodeState) (read : List ℕ) (m : NodeState) (tells : Bool) (held_old held_new : List ℕ → Option (List ℕ)) : Type 0 where
   pub first : List ℕ
   pub part : List ℕ
@@ -53,8 +53,8 @@ pub record StandsCut (side : Side) (n : NodeState) (read : List ℕ) (m : NodeSt
   pub last : vertices_of side n read ≡ vertices_of side n first ++ vertex ∷ []
   pub logs : LogsAllBut n (after_meeting side n first) vertex m tells held_old held_new
 
--- The node stands where the bytes leave it, and so does its log. Where an append failed the last entry may be cut, and where there was no
--- memory the node may stand before the last bytes.
+-- The node and its log are as the bytes leave them. After a failed append the last entry may be cut. After running out
+-- of memory the node may be as before the last bytes.
 abbrev pub Leaves : MeetEnd → Side → NodeState → List ℕ → NodeState → Bool → (List ℕ → Option (List ℕ)) → (List ℕ → Option (List ℕ)) → Type 0
 Leaves end.AppendFault side n read m tells held_old held_new = StandsCut side n read m tells held_old held_new
 Leaves end.OutOfMemory side n read m tells held_old held_new = StandsBefore side n read m tells held_old held_new ⊎ StandsCut side n read m tells held_old held_new
@@ -62,22 +62,23 @@ Leaves e side n read m tells held_old held_new = (m ≡ after_meeting side n rea
 
 -- ---- one session
 
--- A node with its log met a peer, in a session that the door tells behind the others, with the address that was dialled, if one was.
+-- A node with its log met a peer. The door has the session after the others, with the address that was dialled, if one
+-- was.
 pub record NodeMeets (side : Side) (address : Option (List ℕ)) (tells : Bool) (old new : Talker) (e : MeetEnd) : Type 0 where
   pub meets : MeetsPeer side address old.node.core (verdict_of old.node.keys) new.node.core (sessions_told old.door) (sessions_told new.door) e
   pub left : Leaves e side old.node meets.read new.node tells old.files new.files
 
--- there was no memory to take or to dial a peer, and nothing was done
+-- out of memory to take or to dial a peer, and nothing was done
 pub record NodeMeetsNone (tells : Bool) (old new : Talker) (e : MeetEnd) : Type 0 where
   pub ended : e ≡ end.OutOfMemory
   pub state : new.node ≡ old.node
   pub files : IsTrue tells → SameFiles old.files new.files
   pub told : new.door.sessions ≡ old.door.sessions
 
--- a node dialled this address and met the peer, or had no memory to dial
+-- a node dialled this address and met the peer, or was out of memory to dial
 abbrev pub NodeCalls : List ℕ → Bool → Talker → Talker → MeetEnd → Type 0
 NodeCalls address tells old new e = NodeMeets Caller (Some address) tells old new e ⊎ NodeMeetsNone tells old new e
 
--- one was dialled and met the peer, or had no memory to take one
+-- one was dialled and met the peer, or was out of memory to take one
 abbrev pub NodeHosts : Bool → Talker → Talker → MeetEnd → Type 0
 NodeHosts tells old new e = NodeMeets Host None tells old new e ⊎ NodeMeetsNone tells old new e

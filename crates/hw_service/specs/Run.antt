@@ -18,7 +18,7 @@ use Rattle.hw_service.specs.Steps.{Step, TakesAll, TakesUntil}
 
 -- ---- the end
 
--- the consumers were told that no block follows, and nothing else outside changed but what was written
+-- the consumers were finished, as no block follows, and nothing else outside changed but the output
 pub record Closes {B K : Type 0} (sight : Sight B K) (last : Scene B) (kept : FanoutState B) (after : Outside B) : Type 0 where
   pub finished : AreServed (IsFinished sight) last.around.consumers after.consumers last.kept kept
   pub files : after.files ≡ last.around.files
@@ -36,7 +36,7 @@ pub record ReportsPart {B K : Type 0} (sight : Sight B K) (last : Scene B) (afte
   pub closes : Closes sight last kept after
   pub written : AppendsPrefix last.around.written after.written (closing_text last.node kept)
 
--- only a failed write or want of memory cuts it short
+-- only a failed write or running out of memory cuts it short
 abbrev pub ReportsNot : {B K : Type 0} → Sight B K → Scene B → Outside B → ServiceFault → Type 0
 ReportsNot sight last after fault.Write = ReportsPart sight last after
 ReportsNot sight last after fault.OutOfMemory = ReportsPart sight last after
@@ -53,11 +53,11 @@ ReportsAs sight last after (Err e) = ReportsNot sight last after e
 abbrev pub StepOver : Type 0 → Type 0 → Type 1
 StepOver B X = Step (Scene B × X)
 
--- the consumers have taken what they were told so far
+-- the consumers have taken what they were passed so far
 abbrev pub HaveTaken : {B K : Type 0} → Sight B K → CoreState → ℕ → List B → Type 0
 HaveTaken sight core count consumers = All (λ b. HasTaken (told_chain core) count (sight.consumed b)) consumers
 
--- so many steps of a kind, numbered from this one on
+-- this number of steps of a kind, numbered from this one on
 pub record Course (B X : Type 0) : Type 1 where
   pub step : StepOver B X
   pub number : ℕ
@@ -67,8 +67,8 @@ pub record Course (B X : Type 0) : Type 1 where
 abbrev pub course : {B X : Type 0} → StepOver B X → ℕ → ℕ → Course B X
 course step number count = record { step = step; number = number; count = count }
 
--- All steps were taken, and the report was written. The answer is how many vertices and own units met a limit, and whether a call of the door
--- failed in a session. The consumers that are left have taken all that is decided.
+-- All steps were taken, and the report was written. The answer is the number of vertices and own units that met a
+-- limit, and whether the door failed in a session. The consumers that are left have taken all decided blocks.
 pub record Completes {B K X : Type 0} (sight : Sight B K) (stages : Course B X) (first : Scene B × X) (after : Outside B × X) (served : Served) : Type 0 where
   pub last : Scene B
   pub steps : TakesAll stages.step stages.number stages.count first (last, after.1) served.link_failed
@@ -89,14 +89,15 @@ pub record StopsAtReport {B K X : Type 0} (sight : Sight B K) (stages : Course B
   pub steps : TakesAll stages.step stages.number stages.count first (last, after.1) failed
   pub reports : ReportsNot sight last after.0 e
 
--- what comes of a node that has begun
+-- the outcome for a node that has begun
 abbrev pub Proceeds : {B K X : Type 0} → Sight B K → Course B X → Scene B × X → Outside B × X → Result Served ServiceFault → Type 0
 Proceeds sight stages first after (Ok served) = Completes sight stages first after served
 Proceeds sight stages first after (Err e) = StopsAtStep stages first after e ⊎ StopsAtReport sight stages first after e
 
 -- ---- the whole run
 
--- whose run it is: how its consumers are seen, whether its files tell, what its files are called, and its validator, if it has one
+-- whose run it is: how consumers are seen, whether the contents of its files are known, the names of its files, and
+-- its validator, if it has one
 pub record Runner (B K : Type 0) : Type 0 where
   pub sight : Sight B K
   pub tells : Bool
@@ -125,7 +126,7 @@ pub record RunsNot {B K X : Type 0} (run : Runner B K) (before after : Outside B
   pub begins_not : BeginsNot run.sight run.tells run.names run.me before.0 after.0 e
   pub same : after.1 ≡ before.1
 
--- what a run of these steps comes to
+-- the outcome of a run of these steps
 abbrev pub Runs : {B K X : Type 0} → Runner B K → Course B X → Outside B × X → Outside B × X → Result Served ServiceFault → Type 0
 Runs run stages before after (Ok served) = RunsWhole run stages before after served
 Runs run stages before after (Err e) = RunsNot run before after e ⊎ RunsPart run stages before after e

@@ -36,7 +36,7 @@ pub record CallsOne (tells : Bool) (address : List ℕ) (old new : Talker) (e : 
 abbrev pub hosts_session : {B K : Type 0} → Sight B K → Bool → StepOver B (Unit {0})
 hosts_session sight tells = holds_session sight (HostsOne tells) (codes "session")
 
--- What a run comes to in which a node is dialled by so many peers, one after the other; they are numbered from 1.
+-- The outcome of a run in which this number of peers dial the node, one after the other. They are numbered from 1.
 abbrev pub Hosts : {B K : Type 0} → Sight B K → Bool → Names → ℕ → Outside B → Outside B → Result Served ServiceFault → Type 0
 Hosts sight tells names count before after result = Holds (runner sight tells names None) (HostsOne tells) (codes "session") 1 count before after result
 
@@ -44,6 +44,6 @@ Hosts sight tells names count before after result = Holds (runner sight tells na
 abbrev pub calls_peer : {B K : Type 0} → Sight B K → Bool → List ℕ → StepOver B (Unit {0})
 calls_peer sight tells address = holds_session sight (CallsOne tells address) (codes "peer")
 
--- What a run comes to in which a node dials the peer of this address, which has the number 0.
+-- The outcome of a run in which a node dials the peer of this address, which has the number 0.
 abbrev pub Calls : {B K : Type 0} → Sight B K → Bool → Names → List ℕ → Outside B → Outside B → Result Served ServiceFault → Type 0
 Calls sight tells names address before after result = Holds (runner sight tells names None) (CallsOne tells address) (codes "peer") 0 1 before after result

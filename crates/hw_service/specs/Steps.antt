@@ -3,11 +3,12 @@
 use Rattle.std.specs.Prelude.{◌≡◌, ℕ, ◌+◌, ◌<◌, Bool, false, ◌||◌, List, [], ◌∷◌, length, Result, Ok, Err}
 use Rattle.hw_service.specs.declared.fault.ServiceFault.{ServiceFault}
 
--- a step by its number: what stood before it and behind it, and whether a call of the door failed in it, or why the run ends with it
+-- a step by its number: the states before and after it, and whether a call of the door failed in it, or why the run
+-- ends with it
 abbrev pub Step : Type 0 → Type 1
 Step S = ℕ → S → S → Result Bool ServiceFault → Type 0
 
--- what stands behind each step, and whether a call of the door failed in it
+-- the state after each step, and whether a call of the door failed in it
 abbrev pub Taken : Type 0 → Type 0
 Taken S = List (S × Bool)
 
@@ -21,7 +22,7 @@ unfoldable pub AreTaken : {S : Type 0} → Step S → ℕ → S → Taken S → 
 AreTaken step number first [] last = last ≡ first
 AreTaken step number first (t ∷ ts) last = step number first t.0 (Ok t.1) × AreTaken step (number + 1) t.0 ts last
 
--- all of so many steps
+-- all of this number of steps
 pub record TakesAll {S : Type 0} (step : Step S) (number count : ℕ) (first last : S) (failed : Bool) : Type 0 where
   pub taken : Taken S
   pub count_is : length taken ≡ count
@@ -36,7 +37,7 @@ pub record TakesUntil {S : Type 0} (step : Step S) (number count : ℕ) (first l
   pub each : AreTaken step number first taken before
   pub ends : step (number + length taken) before last (Err e)
 
--- so many steps from this number on
+-- a count of steps, numbered from this one on
 abbrev pub Takes : {S : Type 0} → Step S → ℕ → ℕ → S → S → Result Bool ServiceFault → Type 0
 Takes step number count first last (Ok failed) = TakesAll step number count first last failed
 Takes step number count first last (Err e) = TakesUntil step number count first last e

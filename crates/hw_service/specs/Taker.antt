@@ -1,4 +1,4 @@
--- A node as what takes vertices.
+-- A node takes vertices.
 -- Source: ours.
 use Rattle.std.specs.Prelude.{◌≡◌, ℕ, Bool, IsTrue, List, Option, Result, Ok, Err}
 use Rattle.hw_types.specs.declared.unit.Vertex.{Vertex}
@@ -10,7 +10,7 @@ use Rattle.hw_session.specs.Accept.{Accepts, WritesAccepted}
 use Rattle.hw_meeting_node.specs.declared.taker.TakeFault.{TakeFault}
 use Rattle.hw_meeting_node.specs.declared.taker.TakeFault.TheVariants as fault
 
--- why a vertex isn't taken that the node doesn't accept by this fault
+-- why a vertex isn't taken, by the fault with which the node doesn't accept it
 abbrev pub take_fault : AcceptFault → TakeFault
 take_fault (accept.Refused cause) = fault.Refused cause
 take_fault accept.AppendFault = fault.AppendFault
@@ -28,7 +28,7 @@ pub record TakesIn (n : NodeState) (v : Vertex) (m : NodeState) (tells : Bool) (
   pub accepts : Accepts n v m given
   pub log : IsTrue tells → WritesAccepted n v m old new given
 
--- The log that is read, how much of the files may be read, and how often a read failed stay.
+-- The log that is read, how much of the files may be read, and how often a read failed stay the same.
 pub record StaysRead (begun_old begun_new : Option (List ℕ)) (allowance_old allowance_new reads_old reads_new : ℕ) : Type 0 where
   pub begun : begun_new ≡ begun_old
   pub allowance : allowance_new ≡ allowance_old

@@ -16,7 +16,7 @@ pub record Talker : Type 0 where
   pub files : List ℕ → Option (List ℕ)
   pub door : DoorSeen
 
--- of a node, and of files and a door that tell this
+-- of a node, and of files and a door, by their ghosts
 abbrev pub talker : {F D : Type 0} → Files F → Door D → NodeState → F → D → Talker
 talker reads calls node files door = record { node = node; files = reads.held files; door = door_of calls door }
 

@@ -1,4 +1,5 @@
--- A validator that takes turns: in each it makes its unit at the clock's moment, if there is one to make, and then dials each peer once.
+-- A validator that takes turns. In each it makes its unit at the clock's moment, if there is one to make. Then it dials
+-- each peer once.
 -- Source: ours.
 use Rattle.std.specs.Prelude.{◌≡◌, ◌⊎◌, ℕ, ◌<◌, ◌^◌, Bool, IsTrue, List, ◌∷◌, [], length, set, codes, string_bytes, slice_get, Option, Some, None, Result, Ok, Err}
 use Rattle.hw_types.specs.declared.answers.Plan.{Plan}
@@ -43,13 +44,14 @@ unfoldable pub made_line : Option Plan → List ℕ
 made_line None = []
 made_line (Some p) = line_of (codes "made" ∷ kind_word p.kind ∷ digest_text (digest_of p.unit) ∷ [])
 
--- nothing was told of it
+-- nothing was reported of it
 pub record TellsNothing {B : Type 0} (old new : Scene B) : Type 0 where
   pub kept : new.kept ≡ old.kept
   pub consumers : new.around.consumers ≡ old.around.consumers
   pub written : new.around.written ≡ old.around.written
 
--- The consumers are passed what is decided now, and then the line of the unit is written. Where the unit isn't in the log, nothing is told.
+-- The consumers are passed what is decided now, and then the line of the unit is written. Where the unit isn't in the
+-- log, nothing is reported.
 abbrev pub TellsMade : {B K : Type 0} → Sight B K → Result (Option Plan) MakeFault → Scene B → Scene B → Result (Unit {0}) ServiceFault → Type 0
 TellsMade sight (Ok p) old new (Ok x) = IsPassed sight (moment_of old) (moment_of new) × Writes {T = Unit {0}} old.around.written new.around.written (made_line p) (Ok x)
 TellsMade sight (Ok p) old new (Err e) = IsPassed sight (moment_of old) (moment_of new) × IsOfOutput e × Writes {T = Unit {0}} old.around.written new.around.written (made_line p) (Err e)
@@ -57,7 +59,8 @@ TellsMade sight (Err make.RecordsFull) old new result = (result ≡ Ok tt) × Is
 TellsMade sight (Err make.AppendFault) old new result = (result ≡ Err fault.Append) × TellsNothing old new
 TellsMade sight (Err make.OutOfMemory) old new result = (result ≡ Err fault.OutOfMemory) × TellsNothing old new
 
--- The validator made its unit of this moment, with this value for a block, if there was one to make, and it was told.
+-- The validator made its unit of this moment, with this value for a block, if there was one to make. The unit was
+-- reported.
 pub record MakesWith {B K : Type 0} (sight : Sight B K) (tells : Bool) (me moment : ℕ) (value : List ℕ) (old new : Scene B) (result : Result (Unit {0}) ServiceFault) : Type 0 where
   pub made : Result (Option Plan) MakeFault
   pub makes : Makes old.node (planned_by old.node me moment value) new.node made
@@ -71,13 +74,13 @@ MakesUnit sight tells me moment old new result = MakesWith sight tells me moment
 
 -- ---- a peer
 
--- the node dialled the peer of this address, or had no memory to dial; the peer has the marks that this left
+-- the node dialled the peer of this address, or was out of memory to dial; the peer has the marks that this left
 abbrev pub DrivesOne : {B : Type 0} → Bool → Scene B → Scene B → Peer → Peer → SessionEnd → Type 0
 DrivesOne tells old new before after e =
     DrivesPeer tells (string_bytes before.address) (driver_standing old.node before.mark old.around.files) (driver_standing new.node after.mark new.around.files) (sessions_told old.around.door) (sessions_told new.around.door) e
     ⊎ DrivesNone tells (driver_standing old.node before.mark old.around.files) (driver_standing new.node after.mark new.around.files) old.around.door.sessions new.around.door.sessions e
 
--- a session with a peer, which has this number, and what was told of it
+-- a session with the peer of this number, and what was reported of it
 pub record DrivesAt {B K : Type 0} (sight : Sight B K) (tells : Bool) (number : ℕ) (old new : Scene B) (before after : Peer) (result : Result Bool ServiceFault) : Type 0 where
   pub end : SessionEnd
   pub driven : DrivesOne tells old new before after end
@@ -97,7 +100,7 @@ pub record DrivesSession {B K : Type 0} (sight : Sight B K) (tells : Bool) (plac
 
 -- ---- a turn
 
--- what moves beside the scene: the peers with their marks, and the moments that the clock gave, where it tells them
+-- what moves beside the scene: the peers with their marks, and the moments that the clock gave, where they are known
 pub record Turning : Type 0 where
   pub peers : List Peer
   pub given : Option (List ℕ)
@@ -106,7 +109,7 @@ pub record Turning : Type 0 where
 abbrev pub turning : List Peer → Option (List ℕ) → Turning
 turning peers given = record { peers = peers; given = given }
 
--- the validator told of its unit, and dialled its peers one after the other
+-- the validator's unit was reported, and it dialled its peers one after the other
 pub record DrivesPeers {B K : Type 0} (sight : Sight B K) (tells : Bool) (me moment : ℕ) (old new : Scene B) (before after : List Peer) (result : Result Bool ServiceFault) : Type 0 where
   pub between : Scene B
   pub makes : MakesUnit sight tells me moment old between (Ok tt)
@@ -131,6 +134,6 @@ pub record TakesTurn {B K : Type 0} (sight : Sight B K) (tells : Bool) (me : ℕ
 
 -- ---- the run
 
--- What a run comes to in which a validator takes so many turns.
+-- The outcome of a run in which a validator takes this number of turns.
 abbrev pub RunsTurns : {B K : Type 0} → Sight B K → Bool → Names → ℕ → ℕ → Outside B × Turning → Outside B × Turning → Result Served ServiceFault → Type 0
 RunsTurns sight tells names me count before after result = Runs (runner sight tells names (Some me)) (course (TakesTurn sight tells me) 1 count) before after result

@@ -41,7 +41,7 @@ pub struct Sources<'n> {
 }
 
 /// Begins a node: its settings are read, then its keys, and then its log is replayed, or made where there is
-/// none. The consumers are given the new decided blocks after each entry.
+/// no log. The consumers get the new decided blocks after each entry.
 ///
 /// The validator that is to make units, if there is one, is tested against the settings before the keys are
 /// read.
@@ -102,7 +102,7 @@ fn read_sources<F: Files>(
     Ok((config, keys))
 }
 
-/// What is kept of so many consumers that were told nothing.
+/// What is kept of this number of consumers that were passed nothing.
 fn fanout_for(alloc: Global, consumers: usize) -> Result<Fanout, OutOfMemory>
     ensures { IfOk result (λ f. f ≡ record { passed = 0; places = range_with_len 0 consumers; drops = []; gone = [] }) }
 {
@@ -128,7 +128,7 @@ fn read_bytes<F: Files>(alloc: Global, files: &mut F, name: &str) -> Result<Byte
     }
 }
 
-/// The configuration that the settings in the file of this name say.
+/// The configuration in the settings of the file of this name.
 fn read_config<F: Files>(alloc: Global, files: &mut F, name: &str) -> Result<Config, ServiceFault>
     ensures said { IsTrue F.tells → IfOk result (λ config. file_settings (F.held files.old name.now) ≡ Some (Ok config)) }
     ensures fault { IfErr result (IsOfSettings F.tells (F.held files.old name.now)) }
@@ -184,8 +184,8 @@ fn read_keys<F: Files>(
     }
 }
 
-/// Starts a node from the log of this name, or begins a new one where there is none. The consumers, which
-/// were told nothing, are given the new decided blocks after each entry.
+/// Starts a node from the log of this name, or begins a new one where there is none. The consumers, which were
+/// passed nothing, get the new decided blocks after each entry.
 fn start_fed<F: Files>(
     alloc: Global,
     files: &mut F,
@@ -217,7 +217,7 @@ fn start_fed<F: Files>(
     }
 }
 
-/// The node of the log of this name, which is there.
+/// The node of the log of this name, which exists.
 fn go_on_fed<F: Files>(
     alloc: Global,
     files: &mut F,
@@ -249,7 +249,7 @@ fn go_on_fed<F: Files>(
     Ok(Node::replayed(alloc, name, config, keys, replay))
 }
 
-/// What a failed start is answered as.
+/// The answer for a failed start.
 fn fault_of_start(fault: StartFault) -> ServiceFault
     ensures { result ≡ fault_of_start fault }
 {

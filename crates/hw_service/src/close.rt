@@ -11,8 +11,8 @@ use crate::node_host::Host;
 use hw_io::{Consumer, Sink};
 use std::alloc::Global;
 
-/// Tells the consumers that no block follows, and writes the report on the node. Answers what the run comes to, in
-/// whose sessions a call of the door failed or not.
+/// Finishes the consumers, as no block follows, and writes the report on the node. Answers the outcome of the run, in
+/// which a call of the door failed or not.
 pub(crate) fn close_host<S: Sink>(
     alloc: Global,
     host: &mut Host,

@@ -6,7 +6,7 @@ ghost use Rattle.hw_service.specs.Ends.{session_end};
 use hw_meeting_node::MeetEnd;
 use hw_session::SessionEnd;
 
-/// How the session ends of a meeting that ends so.
+/// The end of the session whose meeting has this end.
 pub(crate) fn session_end(end: MeetEnd) -> SessionEnd
     ensures { result ≡ session_end end }
 {

@@ -11,15 +11,15 @@ use hw_types::OutOfMemory;
 /// Why a node's run ends before its report.
 #[derive(Drop)]
 pub enum ServiceFault {
-    /// The settings say no configuration.
+    /// The settings give no configuration.
     Settings(SettingsFault),
-    /// The validator that is to make units is none of the configuration.
+    /// The validator that is to make units isn't in the configuration.
     NoValidator,
-    /// The text of the keys is wrong first at this byte.
+    /// The text of the keys is wrong, first at this byte.
     Keys(u64),
-    /// The log gives no node, for what stands in it.
+    /// No node follows from the log, for what is in it.
     Log(StartFault),
-    /// Two different units have one digest, of which a peer's vertex brought one.
+    /// Two different units have one digest. A peer's vertex brought one of them.
     Clash(ClashUnits),
     /// A read of a file failed.
     Read,
@@ -27,7 +27,7 @@ pub enum ServiceFault {
     Append,
     /// A write of the output failed.
     Write,
-    /// There was no memory.
+    /// Out of memory.
     OutOfMemory,
 }
 

@@ -28,7 +28,7 @@ impl Talk for Hosting {
     }
 }
 
-/// Starts a node and lets so many peers dial and meet it, one after the other. Then it reports, all as in
+/// Starts a node and lets this number of peers dial and meet it, one after the other. Then it reports, all as in
 /// `hold_sessions`. The sessions are numbered from 1.
 pub fn host<F: Files, S: Sink, D: Door>(
     alloc: Global,

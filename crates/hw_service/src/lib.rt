@@ -1,9 +1,8 @@
-//! What a node does that runs: it starts, serves sessions, meets others one after the other or takes turns, and
-//! reports.
+//! The run of a node: it starts, serves sessions, meets others one after the other or takes turns, and reports.
 //!
-//! In a session a peer is served, or a peer is dialled and answers. In a meeting two nodes that were apart say to
-//! each other what they have of each validator, and each sends what the other lacks. What happens is reported as it
-//! happens: after each of them the consumers are passed what is decided now, and then its line is written.
+//! In a session a peer is served, or a peer is dialled and answers. In a meeting two nodes that were apart send each
+//! other a summary of what they have of each validator. Then each sends what the other lacks. After each session or
+//! meeting the consumers are passed what is decided now, and then its line is written.
 #![tactic(auto)]
 
 mod begin;

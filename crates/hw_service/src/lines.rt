@@ -29,8 +29,8 @@ pub(crate) fn write_bytes<S: Sink>(out: &mut S, bytes: &[u8]) -> Result<(), Serv
     }
 }
 
-/// Tells in a line how the session of this number ended with the node, unless it ended as Done, and answers
-/// whether a call of the door failed in it. A session that ends the run has no line.
+/// Writes the line on how the session of this number ended, unless it ended as Done. Answers whether a call of the
+/// door failed in it. A session that ends the run has no line.
 pub(crate) fn tell_end<S: Sink>(
     alloc: Global,
     node: &Node,
@@ -54,14 +54,14 @@ pub(crate) fn tell_end<S: Sink>(
     }
 }
 
-/// Whether a call of the door failed in a session that ended so.
+/// Whether a call of the door failed in a session with this end.
 fn is_link_fault(end: SessionEnd) -> bool
     ensures { result ≡ is_link_fault end }
 {
     matches!(end, SessionEnd::LinkFault)
 }
 
-/// Writes the line of a session that ended so.
+/// Writes the line of a session with this end.
 fn write_end<S: Sink>(
     alloc: Global,
     out: &mut S,
@@ -77,7 +77,7 @@ fn write_end<S: Sink>(
     write_bytes(out, line.as_slice())
 }
 
-/// The line of a session that ended so.
+/// The line of a session with this end.
 #[tactic(auto, using(std::proofs::Common::append_assoc), unfolding(hw_text::specs::Lines::line_of))]
 fn line_of_end(alloc: Global, who: &str, number: u64, end: SessionEnd) -> Result<Bytes, OutOfMemory>
     ensures { IfOk result (λ line. line ≡ line_of_end who.now number end) }
@@ -91,7 +91,7 @@ fn line_of_end(alloc: Global, who: &str, number: u64, end: SessionEnd) -> Result
     Ok(line)
 }
 
-/// Puts in words last how a session ended.
+/// Appends how a session ended, in words.
 fn put_end(line: &mut Bytes, end: SessionEnd) -> Result<(), OutOfMemory>
     ensures { OnOk result (line.new ≡ line.old ++ end_words end) }
 {
@@ -129,7 +129,7 @@ fn copies(known: &Bytes, other: &Bytes) -> Result<ClashUnits, OutOfMemory>
     })
 }
 
-/// What is written at the end: the report on the node, the consumers that were dropped, and the limits.
+/// The text at the end of a run: the report on the node, the consumers that were dropped, and the limits.
 #[tactic(auto, using(std::proofs::Common::append_assoc), unfolding(crate::specs::Lines::closing_text))]
 pub(crate) fn closing_text(
     alloc: Global,
@@ -149,7 +149,7 @@ pub(crate) fn closing_text(
     Ok(text)
 }
 
-/// Puts a line last of how many vertices met a limit, if some did.
+/// Appends the line with the number of vertices and own units that met a limit, if some did.
 #[tactic(auto, using(std::proofs::Common::append_assoc), unfolding(hw_text::specs::Lines::line_of))]
 fn put_limits(text: &mut Bytes, count: u64) -> Result<(), OutOfMemory>
     ensures { OnOk result (text.new ≡ text.old ++ limits_line count) }

@@ -6,7 +6,8 @@ use hw_session::Node;
 /// A node, and what is kept of its consumers.
 #[derive(Drop)]
 pub(crate) struct Host {
+    /// The node.
     pub node: Node,
-    /// What is kept of its consumers.
+    /// How far its consumers are, and which were dropped.
     pub fanout: Fanout,
 }

@@ -1,7 +1,7 @@
-//! A node with its log, as what takes the vertices of a node that it meets.
+//! A node with its log takes the vertices of a node that it meets.
 //!
-//! A vertex gets the verdict of the node's keys, and an accepted one goes last in the journal and then its entry
-//! last in the log, as in any session of the node.
+//! A vertex gets the verdict of the node's keys. An accepted one is appended to the journal, and then its entry to the
+//! log, as in any session of the node.
 
 ghost use Rattle.std.specs.Prelude.{◌≡◌, ◌⊎◌, false, All};
 ghost use Rattle.hw_io.specs.Faults.{raised};
@@ -20,10 +20,10 @@ use std::alloc::Global;
 
 /// Dials the node at this address and meets it, as `meet_one` does.
 ///
-/// The node accepts each vertex of the peer as in any session: an accepted one goes last in the journal, and then its
-/// entry goes last in the log; one that came again, a refused one and one that met a limit are counted, and a clash
-/// is kept. Behind the meeting node and log stand where the vertices of the frames read leave them, one after the
-/// other. After `AppendFault` the last one stands in the journal alone, and so it may after `OutOfMemory`.
+/// The node takes each vertex of the peer as in any session. An accepted one is appended to the journal, and then its
+/// entry to the log. A repeat, a refused one and one that met a limit are counted, and a clash is kept. After the
+/// meeting node and log are as the vertices of the frames read leave them, one after the other. After `AppendFault`
+/// the last one is in the journal alone, and after `OutOfMemory` it may be.
 pub fn meet_node<D: Door, F: Files>(
     alloc: Global,
     node: &mut Node,

@@ -18,7 +18,7 @@ use hw_types::{Bytes, OutOfMemory, PlanKind};
 use hw_validator::value_at;
 use std::alloc::Global;
 
-/// What a validator makes its unit of.
+/// What a validator makes its unit from.
 #[derive(Clone, Copy)]
 struct Own<'v> {
     /// The validator's number.
@@ -29,7 +29,8 @@ struct Own<'v> {
     value: &'v [u8],
 }
 
-/// Makes the unit that the validator may make at this moment, and tells of it.
+/// Makes the unit that the validator may make at this moment, passes the consumers what is decided, and writes the
+/// unit's line.
 pub(crate) fn make_unit<F: Files, S: Sink>(
     alloc: Global,
     host: &mut Host,
@@ -62,7 +63,8 @@ pub(crate) fn make_unit<F: Files, S: Sink>(
     make_with(alloc, host, own, files, out, consumers)
 }
 
-/// Makes the unit that the validator may make of this, and tells of it.
+/// Makes the unit that the validator may make from this, passes the consumers what is decided, and writes the unit's
+/// line.
 fn make_with<F: Files, S: Sink>(
     alloc: Global,
     host: &mut Host,

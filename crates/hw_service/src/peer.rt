@@ -11,12 +11,12 @@ use std::alloc::Global;
 pub struct Peer {
     /// Where it is dialled.
     pub address: String,
-    /// How far the node and the peer have told each other their journals.
+    /// How far the node and the peer have sent each other their journals.
     pub mark: PeerMark,
 }
 
 impl Peer {
-    /// A peer at this address, which has told nothing and was told nothing.
+    /// A peer at this address, which has sent nothing and was sent nothing.
     pub fn new(alloc: Global, address: &str) -> Result<Peer, OutOfMemory>
         ensures { IfOk result (λ peer. (string_bytes peer.address ≡ address.now) × (peer.mark ≡ record { pushed = 0; pulled = 0 })) }
     {

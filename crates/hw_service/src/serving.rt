@@ -29,7 +29,7 @@ impl Talk for Serving {
     }
 }
 
-/// Starts a node and lets it serve so many sessions, one after the other. Then it reports, all as in
+/// Starts a node and lets it serve this number of sessions, one after the other. Then it reports, all as in
 /// `hold_sessions`. The sessions are numbered from 1.
 pub fn serve<F: Files, S: Sink, D: Door>(
     alloc: Global,

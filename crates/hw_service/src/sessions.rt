@@ -33,16 +33,16 @@ pub struct Sessions<'w, T: Talk> {
     pub who: &'w str,
     /// The number of the first one.
     pub first: u64,
-    /// How many there are.
+    /// The number of sessions.
     pub count: u64,
 }
 
 /// Starts a node and lets it hold these sessions, one after the other. Then it reports.
 ///
-/// After each session the consumers are given the new decided blocks, and then a line is written of how the
-/// session ended, unless it ended as Done. At the end the consumers are told that no block follows, and the
-/// report on the node is written, with the consumers that were dropped and the number of vertices that met
-/// a limit. A fault of a file or of the output, a clash and want of memory end the run at once.
+/// After each session the consumers get the new decided blocks. Then a line is written on how the session ended,
+/// unless it ended as Done. At the end the consumers are finished, and the report on the node is written. The report
+/// has the consumers that were dropped and the number of vertices that met a limit. A fault of a file or of the output,
+/// a clash or running out of memory ends the run at once.
 pub fn hold_sessions<T: Talk, F: Files, S: Sink, D: Door>(
     alloc: Global,
     sources: Sources<'_>,
@@ -52,7 +52,7 @@ pub fn hold_sessions<T: Talk, F: Files, S: Sink, D: Door>(
     door: &mut D,
     consumers: &mut Vec<Box<dyn Consumer>>,
 ) -> Result<Served, ServiceFault>
-    // So the last number is that of a `u64` too.
+    // So the last number fits a `u64` too.
     requires first { sessions.now.first ≤ 1 }
     ensures holds { Holds (runner (sight_of ⟦<dyn Consumer as Consumer>⟧) F.tells (names_of sources.entry) None) (T.talks sessions.now.talk F.tells) sessions.now.who.now sessions.now.first sessions.now.count
         (outside_of F.Files S.Sink D.Door files.old out.old door.old consumers.old.items)
@@ -69,7 +69,7 @@ pub fn hold_sessions<T: Talk, F: Files, S: Sink, D: Door>(
     hold_begun(alloc, &mut host, sessions, files, out, door, consumers)
 }
 
-/// Lets a node that has begun hold these sessions, and then reports.
+/// Lets a node that has begun hold these sessions, and then reports as `hold_sessions` does.
 fn hold_begun<T: Talk, F: Files, S: Sink, D: Door>(
     alloc: Global,
     host: &mut Host,
@@ -95,7 +95,8 @@ fn hold_begun<T: Talk, F: Files, S: Sink, D: Door>(
     close_host(alloc, host, link_failed, out, consumers)
 }
 
-/// Holds these sessions, one after the other, tells of each, and answers whether a call of the door failed in one.
+/// Holds these sessions, one after the other, and writes the line of each. Answers whether a call of the door failed in
+/// one.
 fn hold_all<T: Talk, F: Files, S: Sink, D: Door>(
     alloc: Global,
     host: &mut Host,

@@ -1,4 +1,4 @@
-//! A node and its files, which take vertices.
+//! A node and its files take vertices.
 
 ghost use Rattle.std.specs.Prelude.{◌≡◌, ◌∷◌, []};
 ghost use Rattle.hw_keys.specs.Signed.{verdict_of};
@@ -13,7 +13,9 @@ use hw_types::{Receipt, Vertex};
 /// A node and the files that hold its log.
 #[derive(Drop)]
 pub struct NodeTaker<'a, F: Files> {
+    /// The node.
     pub node: &'a mut Node,
+    /// The files with its log.
     pub files: &'a mut F,
 }
 
@@ -38,7 +40,7 @@ impl<'a, F: Files> Taker for NodeTaker<'a, F> {
     }
 }
 
-/// Why a vertex isn't taken that the node doesn't accept by this fault.
+/// Why a vertex isn't taken, by the fault with which the node doesn't accept it.
 fn take_fault(fault: AcceptFault) -> TakeFault
     ensures { result ≡ take_fault fault }
 {

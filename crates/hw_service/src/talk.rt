@@ -10,12 +10,12 @@ use hw_session::{Node, SessionEnd};
 
 /// How a node talks to a peer in a session.
 pub trait Talk: Drop {
-    /// What a session does with the node, its files and the door, by how it ends. What the files hold is told where
-    /// the word is true.
+    /// What a session does with the node, its files and the door, by how it ends. The contents of the files are known
+    /// where the word is true.
     ghost talks: { Self → Bool → Talker → Talker → SessionEnd → Type 0 };
 
-    /// Holds one session through the door, and answers how it ended. An accepted vertex goes last in the journal, and
-    /// then its entry last in the log.
+    /// Holds one session through the door, and answers how it ended. An accepted vertex is appended to the journal, and
+    /// then its entry to the log.
     fn talk<F: Files, D: Door>(&self, node: &mut Node, files: &mut F, door: &mut D) -> SessionEnd
         ensures talked { talks self.now F.tells (talker F.Files D.Door node.old files.old door.old) (talker F.Files D.Door node.new files.new door.new) result }
         ensures grown { HasGrown node.old.core node.new.core }

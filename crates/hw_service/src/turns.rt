@@ -18,14 +18,13 @@ use crate::peer::Peer;
 use hw_io::{Clock, Consumer, Door, Files, Sink};
 use std::alloc::Global;
 
-/// Starts a node and lets the validator take so many turns. Then it reports.
+/// Starts a node and lets the validator take this number of turns. Then it reports.
 ///
 /// In each turn the validator makes its unit at the clock's moment, if there is one to make, and then dials each
-/// peer once. After each of these the consumers are given the new decided blocks, and then a line is written of
-/// the unit, or of how the session ended, unless it ended as Done. At the end the consumers are told that no block
-/// follows, and the report on the node is written, with the consumers that were dropped and the number of vertices
-/// and own units that met a limit. A fault of a file or of the output, a clash and want of memory end the run at
-/// once.
+/// peer once. After each of these the consumers get the new decided blocks. Then a line is written on the unit, or on
+/// how the session ended, unless it ended as Done. At the end the consumers are finished, and the report on the node is
+/// written. The report has the consumers that were dropped, and the number of vertices and own units that met a limit.
+/// A fault of a file or of the output, a clash or running out of memory ends the run at once.
 pub fn run<F: Files, S: Sink, C: Clock, D: Door>(
     alloc: Global,
     sources: Sources<'_>,
@@ -54,7 +53,7 @@ pub fn run<F: Files, S: Sink, C: Clock, D: Door>(
     run_begun(alloc, &mut host, me, turns, peers, environment, consumers)
 }
 
-/// Lets the validator of a node that has begun take so many turns, and then reports.
+/// Lets the validator of a node that has begun take this number of turns, and then reports as `run` does.
 fn run_begun<F: Files, S: Sink, C: Clock, D: Door>(
     alloc: Global,
     host: &mut Host,
@@ -81,7 +80,7 @@ fn run_begun<F: Files, S: Sink, C: Clock, D: Door>(
     close_host(alloc, host, link_failed, environment.out, consumers)
 }
 
-/// Takes so many turns, one after the other, and answers whether a call of the door failed in a session.
+/// Takes this number of turns, one after the other. Answers whether a call of the door failed in a session.
 fn take_turns<F: Files, S: Sink, C: Clock, D: Door>(
     alloc: Global,
     host: &mut Host,
@@ -114,8 +113,8 @@ fn take_turns<F: Files, S: Sink, C: Clock, D: Door>(
     Ok(failed)
 }
 
-/// Takes a turn: the validator makes its unit at the clock's moment, and then dials each peer once. Answers whether
-/// a call of the door failed in a session.
+/// Takes a turn: the validator makes its unit at the clock's moment, if there is one to make, and then dials each peer
+/// once. Answers whether a call of the door failed in a session.
 fn take_turn<F: Files, S: Sink, C: Clock, D: Door>(
     alloc: Global,
     host: &mut Host,
@@ -191,7 +190,8 @@ fn drive_peers<F: Files, S: Sink, C: Clock, D: Door>(
     Ok(failed)
 }
 
-/// Dials a peer, which has this number, and tells of the session. Answers whether a call of the door failed in it.
+/// Dials the peer of this number, passes the consumers what is decided, and writes the session's line. Answers whether
+/// a call of the door failed in it.
 fn drive_peer<F: Files, S: Sink, C: Clock, D: Door>(
     alloc: Global,
     host: &mut Host,
