@@ -46,8 +46,3 @@ explained_parts old config received d =
     append_assoc (old ++ join_with_byte 32 (final_words d)) (flat_map spaced words) line_feed
     ∙ append_assoc old (join_with_byte 32 (final_words d)) (flat_map spaced words ++ line_feed)
     ∙ ap (λ l. old ++ l) (sym (append_assoc (join_with_byte 32 (final_words d)) (flat_map spaced words) line_feed) ∙ ap (λ l. l ++ line_feed) (sym (joined_on (codes "final") (drop 1 (final_words d)) words)))
-
--- the same of a line of its own
-pub explained_whole : (config : Config) (received : Received) (d : Decision)
-    → join_with_byte 32 (final_words d) ++ flat_map spaced (committee_of config received d) ++ line_feed ≡ explained_line config received d
-explained_whole config received d = explained_parts [] config received d

@@ -3,7 +3,7 @@
 ghost use Rattle.std.specs.Prelude.{◌≡◌, ◌<◌, length, IfOk};
 ghost use Rattle.hw_explain.specs.Explain.{line_now};
 
-use crate::summit::line_of;
+use crate::summit::put_line;
 use hw_core::Core;
 use hw_types::{Bytes, OutOfMemory};
 use std::alloc::Global;
@@ -33,5 +33,7 @@ fn line_at(alloc: Global, core: &Core, index: u64) -> Result<Option<Bytes>, OutO
     if decision.at != core.journal_count() {
         return Ok(None);
     }
-    Ok(Some(line_of(alloc, core, decision)?))
+    let mut text = Bytes::new(alloc);
+    put_line(alloc, &mut text, core, decision)?;
+    Ok(Some(text))
 }

@@ -13,17 +13,20 @@ use hw_text::end_line;
 use hw_types::{Bytes, Decision, OutOfMemory};
 use std::alloc::Global;
 
-/// The line of a block that is decided now.
-#[tactic(auto, using(crate::proofs::LineLaws::explained_whole))]
-pub(crate) fn line_of(alloc: Global, core: &Core, decision: &Decision) -> Result<Bytes, OutOfMemory>
+/// Puts the line of a block that is decided now last.
+#[tactic(auto, using(crate::proofs::LineLaws::explained_parts))]
+pub(crate) fn put_line(
+    alloc: Global,
+    text: &mut Bytes,
+    core: &Core,
+    decision: &Decision,
+) -> Result<(), OutOfMemory>
     requires { IsDecidedNow core.now decision.now }
-    ensures { IfOk result (λ line. line ≡ explained_line core.now.config (received_in core.now) decision.now) }
+    ensures { OnOk result (text.new ≡ text.old ++ explained_line core.now.config (received_in core.now) decision.now) }
 {
-    let mut line = Bytes::new(alloc);
-    put_final_words(&mut line, decision)?;
-    put_summit(alloc, &mut line, core, decision)?;
-    end_line(&mut line)?;
-    Ok(line)
+    put_final_words(text, decision)?;
+    put_summit(alloc, text, core, decision)?;
+    end_line(text)
 }
 
 /// Puts the last committee of a block that is decided now last, each word after a space: its members in rising

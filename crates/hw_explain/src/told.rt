@@ -6,7 +6,7 @@ ghost use Rattle.hw_core.specs.Decided.{decided_in};
 ghost use Rattle.hw_explain.specs.{Explain.{explained_in}, Told.{HasLines, HasTold, IsBehind, AreNewFrom}};
 
 use crate::lines::put_exceeded;
-use crate::summit::line_of;
+use crate::summit::put_line;
 use hw_core::Core;
 use hw_text::put_word;
 use hw_types::{Bytes, OutOfMemory};
@@ -54,8 +54,7 @@ impl DecisionLines {
         ensures count { self.new.count ≡ self.old.count }
     {
         let decision = core.decision(index);
-        let line = line_of(self.alloc, core, decision)?;
-        self.text.extend(line.as_slice())
+        put_line(self.alloc, &mut self.text, core, decision)
     }
 
     /// The whole text, which ends with the weight of the faulty where it exceeds the threshold.

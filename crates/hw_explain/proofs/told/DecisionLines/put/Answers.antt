@@ -5,17 +5,16 @@ use Rattle.hw_explain.proofs.ToldLaws.{now_at, line_more}
 use Rattle.hw_explain.proofs.CommitteeLaws.{on_ok}
 use Rattle.hw_explain.proofs.told.DecisionLines.put.Goals as goal
 
-pub line_of-requires : goal.line_of-requires
-line_of-requires c = now_at c.args.core.now c.args.index c.decision-decision.result.now c.requires.is_new c.decision-decision.ensures
+pub put_line-requires : goal.put_line-requires
+put_line-requires c = now_at c.args.core.now c.args.index c.decision-decision.result.now c.requires.is_new c.decision-decision.ensures
 
 pub returns-clause-lines : goal.returns-clause-lines
 returns-clause-lines c =
     let core = c.args.core.now in
     let d = c.decision-decision.result.now in
-    on_ok c.extend.result
+    on_ok c.put_line.result
     (λ wrote. record {
-      lines = wrote ∙ ap (λ l. c.args.self.now.text ++ l) (c.as_slice.ensures ∙ c.in_ok-line.ensures)
-          ∙ ap (λ t. t ++ explained_line core.config (received_in core) d) c.requires.lines.lines
+      lines = wrote ∙ ap (λ t. t ++ explained_line core.config (received_in core) d) c.requires.lines.lines
           ∙ line_more core c.args.index d (now_at core c.args.index d c.requires.is_new c.decision-decision.ensures) c.decision-decision.ensures;
     })
-    c.extend.ensures.ok
+    c.put_line.ensures
