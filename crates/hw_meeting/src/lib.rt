@@ -22,6 +22,6 @@ pub use due::{PlaceList, due_places};
 pub use encoding::encode_meeting;
 pub use frame::{FrameError, MeetingFrame, SummaryList};
 pub use hw_agree::LaneSummary;
-pub use samples::small_meetings_are_told;
+pub use samples::small_meetings_are_worked_out;
 pub use summary::summary_of;
 pub use torn::torn_for;

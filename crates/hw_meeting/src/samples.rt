@@ -3,7 +3,7 @@
 ghost use Rattle.hw_meeting.specs.Samples.{ThatASummaryIsRead, ThatTornValidatorsRise, ThatABlockIsALine, ThatAUnitBreaksIt, ThatALineIsOwed};
 
 /// What the definitions make of small meetings.
-pub fn small_meetings_are_told()
+pub fn small_meetings_are_worked_out()
     ensures summary { ThatASummaryIsRead }
     ensures torn { ThatTornValidatorsRise }
     ensures line { ThatABlockIsALine }

@@ -13,7 +13,7 @@ use Rattle.hw_meeting.specs.Frames.{HasUnits, rise_from, part_at, summary_at, to
 use Rattle.hw_meeting.specs.Samples.{digest, block, one_block, first}
 use Rattle.hw_meeting.specs.Lanes.{IsHighest, tip_at, IsOnLaneOf, IsOnTip, IsMark, mark_at}
 use Rattle.hw_meeting.specs.Due.{AreOwed}
-use Rattle.hw_meeting.proofs.samples.small_meetings_are_told.Goals as goal
+use Rattle.hw_meeting.proofs.samples.small_meetings_are_worked_out.Goals as goal
 
 pub returns-clause-summary : goal.returns-clause-summary
 unfolding many_at counted_at whole part_at summary_at meeting_of
