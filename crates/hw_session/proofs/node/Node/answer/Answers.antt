@@ -54,8 +54,8 @@ returns-in-Want-clause-reacts g c =
     let old = g.D.Door.sessions c.args.door.now in
     let At : Frame → Type 0 = λ x. Reacts {T = Unit {0}} f.tells (standing n held) x (serve_frame n c.args.place x) (standing n held) old (g.D.Door.sessions c.answer_want.new.door) c.answer_want.result in
     later_reacts n c.args.place c.args.frame f.tells held held old (g.D.Door.sessions c.answer_want.new.door) c.answer_want.result n c.if-place-eq0.false
-    (subst At (sym c.in-Want.is) (want_reacts n c.args.place f.tells held c.self.inside.core c.in-Want.needs old (g.D.Door.sessions c.answer_want.new.door) c.answer_want.result (ap (λ (k : NodeState). k.core) c.self.view_is)
-    (subst (λ (needs : List Need). Sends {T = Unit {0}} (sent_bytes (answer_to_want c.self.inside.core needs)) old (g.D.Door.sessions c.answer_want.new.door) c.answer_want.result) c.as_slice.ensures c.answer_want.ensures.sent)))
+    (subst At (sym c.in-Want.is) (want_reacts n c.args.place f.tells held c.self-in-Want.inside.core c.in-Want.needs old (g.D.Door.sessions c.answer_want.new.door) c.answer_want.result (ap (λ (k : NodeState). k.core) c.self-in-Want.view_is)
+    (subst (λ (needs : List Need). Sends {T = Unit {0}} (sent_bytes (answer_to_want c.self-in-Want.inside.core needs)) old (g.D.Door.sessions c.answer_want.new.door) c.answer_want.result) c.as_slice.ensures c.answer_want.ensures.sent)))
 
 pub returns-in-Missing-clause-reacts : goal.returns-in-Missing-clause-reacts
 returns-in-Missing-clause-reacts g c =

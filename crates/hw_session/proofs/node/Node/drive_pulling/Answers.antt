@@ -10,8 +10,8 @@ use Rattle.hw_session.specs.Standing.{standing, driver_standing}
 use Rattle.hw_session.proofs.DriveLaws.{as_reacts, bad_reacts, pulling_bad, told_node, told_alike, vertex_goes, vertex_ends}
 use Rattle.hw_session.proofs.node.Node.drive_pulling.Goals as goal
 
-pub returns-in_ok-_taken-in-Vertex-clause-reacts : goal.returns-in_ok-_taken-in-Vertex-clause-reacts
-returns-in_ok-_taken-in-Vertex-clause-reacts g c =
+pub returns-in-Vertex-clause-reacts : goal.returns-in-Vertex-clause-reacts
+returns-in-Vertex-clause-reacts g c =
     let AtFrame : Frame → Type 0 = λ f. ReactsAs g.F.Files.tells (standing c.args.self.now (g.F.Files.held c.args.files.now)) f (drive_pulling (record { stage = stage.Pulling c.args.again; node = c.args.self.now; mark = c.args.mark.now }) c.args.again c.args.place f) (driver_standing c.receive.new.self c.args.mark.now (g.F.Files.held c.receive.new.files)) (g.D.Door.sessions c.args.door.now) (g.D.Door.sessions c.args.door.now) (Ok (stage.Pulling c.args.again)) in
     subst AtFrame (sym c.in-Vertex.is)
     (vertex_goes (stage.Pulling c.args.again) c.args.self.now c.args.mark.now c.in-Vertex.vertex _ _ _ _ (λ k. tt) c.in_ok-_taken-in-Vertex._taken (g.D.Door.sessions c.args.door.now) c.in_ok-_taken-in-Vertex.ensures.received)

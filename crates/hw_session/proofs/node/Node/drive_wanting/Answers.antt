@@ -8,8 +8,8 @@ use Rattle.hw_session.specs.Standing.{standing, driver_standing}
 use Rattle.hw_session.proofs.DriveLaws.{as_reacts, bad_reacts, wanting_bad, goes_answers, vertex_goes, vertex_ends}
 use Rattle.hw_session.proofs.node.Node.drive_wanting.Goals as goal
 
-pub returns-in_ok-_taken-in-Vertex-clause-reacts : goal.returns-in_ok-_taken-in-Vertex-clause-reacts
-returns-in_ok-_taken-in-Vertex-clause-reacts g c =
+pub returns-in-Vertex-clause-reacts : goal.returns-in-Vertex-clause-reacts
+returns-in-Vertex-clause-reacts g c =
     let At : Frame → Type 0 = λ f. ReactsAs g.F.Files.tells (standing c.args.self.now (g.F.Files.held c.args.files.now)) f (drive_wanting (record { stage = stage.Wanting; node = c.args.self.now; mark = c.args.mark }) c.args.place f) (driver_standing c.receive.new.self c.args.mark (g.F.Files.held c.receive.new.files)) (g.D.Door.sessions c.args.door.now) (g.D.Door.sessions c.args.door.now) (Ok stage.Wanting) in
     subst At (sym c.in-Vertex.is)
     (vertex_goes stage.Wanting c.args.self.now c.args.mark c.in-Vertex.vertex _ _ _ _ (λ k. tt) c.in_ok-_taken-in-Vertex._taken (g.D.Door.sessions c.args.door.now) c.in_ok-_taken-in-Vertex.ensures.received)
