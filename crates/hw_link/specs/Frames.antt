@@ -13,11 +13,11 @@ use Rattle.hw_link.specs.declared.end.SessionEnd.TheVariants.{EndOfInput, BadFra
 
 -- ---- what is sent
 
--- bytes after their length
+-- the bytes, with their length before them
 abbrev pub behind_length : List ℕ → List ℕ
 behind_length bytes = u32_bytes (length bytes) ++ bytes
 
--- a frame after its length
+-- a frame, with its length before it
 abbrev pub framed : Frame → List ℕ
 framed f = behind_length (frame_bytes f)
 

@@ -9,7 +9,7 @@ use Rattle.hw_link.specs.declared.end.SessionEnd.TheVariants.{LinkFault, OutOfMe
 use Rattle.hw_link.specs.Talk.{IsPrefixOf}
 use Rattle.hw_link.specs.Links.{after_part, is_link_fault, has_failed}
 
--- the link failed, or it was out of memory
+-- the link failed, or memory ran out
 abbrev pub IsOfLink : SessionEnd → Type 0
 IsOfLink LinkFault = Unit {0}
 IsOfLink OutOfMemory = Unit {0}

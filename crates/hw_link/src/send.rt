@@ -11,7 +11,7 @@ use hw_io::{Door, IoFault};
 use hw_types::{Bytes, Frame, OutOfMemory};
 use std::alloc::Global;
 
-/// Sends a frame after its length. On an error a first part of the two was sent.
+/// Sends the length of a frame, and then the frame. On an error a first part of the two was sent.
 #[tactic(auto, using(crate::proofs::LengthLaws::frame_short))]
 pub fn send_frame<D: Door>(alloc: Global, door: &mut D, frame: &Frame) -> Result<(), SessionEnd>
     requires fits { FrameFits frame.now }
@@ -45,7 +45,7 @@ pub fn send_body<D: Door>(alloc: Global, door: &mut D, body: &[u8]) -> Result<()
     Ok(())
 }
 
-/// The bytes after their length.
+/// The bytes, with their length before them.
 fn behind_length(alloc: Global, body: &[u8]) -> Result<Bytes, OutOfMemory>
     requires { length body.now < 2 ^ 32 }
     ensures { IfOk result (λ bytes. bytes ≡ behind_length body.now) }

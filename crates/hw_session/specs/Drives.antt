@@ -58,7 +58,7 @@ pub record StandsDrivenCut (tells : Bool) (before : DriverStanding) (read writte
   pub wrote : written ≡ said_bytes (driven before.node before.mark first).said
 
 -- The node is as the bytes leave it, and so is its log. Where an append failed the last entry may be cut. Out of memory
--- the node may be as it was before the last bytes. Then it is, with its marks and its log, as what it wrote says.
+-- the node may be as it was before the last bytes. Then what it wrote says how it, its marks and its log are.
 abbrev pub LeavesDriven : SessionEnd → Bool → DriverStanding → List ℕ → List ℕ → DriverStanding → Type 0
 LeavesDriven end.AppendFault tells before read written after = StandsDrivenCut tells before read written after
 LeavesDriven end.OutOfMemory tells before read written after = StandsDriven tells before read written after ⊎ StandsDrivenCut tells before read written after

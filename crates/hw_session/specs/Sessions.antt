@@ -23,7 +23,7 @@ use Rattle.hw_session.specs.Standing.{Standing}
 
 -- ---- how it ended
 
--- the outside failed, or it was out of memory
+-- the outside failed, or memory ran out
 abbrev pub IsOfOutside : SessionEnd → Type 0
 IsOfOutside end.LinkFault = Unit {0}
 IsOfOutside end.AppendFault = Unit {0}
@@ -93,7 +93,7 @@ pub record StandsCut (tells : Bool) (before : Standing) (read written : List ℕ
   pub wrote : written ≡ said_bytes (served before.node first).said
 
 -- The node is as the bytes leave it, and so is its log. Where an append failed the last entry may be cut. Out of memory
--- the node may be as it was before the last bytes. Then it is, with its log, as what it wrote says.
+-- the node may be as it was before the last bytes. Then what it wrote says how it and its log are.
 abbrev pub Leaves : SessionEnd → Bool → Standing → List ℕ → List ℕ → Standing → Type 0
 Leaves end.AppendFault tells before read written after = StandsCut tells before read written after
 Leaves end.OutOfMemory tells before read written after = StandsBefore tells before read written after ⊎ StandsCut tells before read written after

@@ -29,14 +29,14 @@ pub record GoesOn (config : Config) (keys : List (List ℕ)) (name bytes : List 
   pub limited : n.limited ≡ 0
   pub clash : n.clash ≡ None
 
--- the log wasn't made: a call of the files failed, or it was out of memory
+-- the log wasn't made: a call of the files failed, or memory ran out
 abbrev pub IsUnmade : StartFault → Type 0
 IsUnmade (fault.Log log.ReadFault) = Unit {0}
 IsUnmade (fault.Log log.WriteFault) = Unit {0}
 IsUnmade fault.OutOfMemory = Unit {0}
 IsUnmade e = ⊥
 
--- the header wasn't appended, or it was out of memory
+-- the header wasn't appended, or memory ran out
 abbrev pub IsUnwritten : StartFault → Type 0
 IsUnwritten (fault.Log log.WriteFault) = Unit {0}
 IsUnwritten fault.OutOfMemory = Unit {0}

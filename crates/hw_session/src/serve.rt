@@ -111,7 +111,8 @@ impl Node {
         Ok(heard.next)
     }
 
-    /// Answers the frame that begins at this place of the session. The first one is a Hello, and no later one is.
+    /// Answers the frame that begins at this place of the session. A first frame that is no Hello ends it as `BadFrame`,
+    /// and so does a later one that is.
     fn answer<D: Door, F: Files>(
         &mut self,
         door: &mut D,
@@ -141,7 +142,7 @@ impl Node {
         }
     }
 
-    /// Answers the first frame, which is a Hello of the own instance.
+    /// Answers the first frame. What is no Hello ends the session, and so does a Hello of another instance.
     fn answer_first<D: Door>(&self, door: &mut D, frame: &Frame) -> Result<(), SessionEnd>
         requires open { D.is_open door.old ≡ true }
         ensures answers { Answers (serve_first self.now frame.now) (D.sessions door.old) (D.sessions door.new) result }
