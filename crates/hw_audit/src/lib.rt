@@ -2,8 +2,7 @@
 //!
 //! Where neither of the two chains of decided blocks begins the other, validators that weigh more than
 //! the threshold equivocated. The audit names all who did, each with two signed units that show it.
-//! A unit of the one journal and a unit of the other that differ and have one digest come first: they
-//! are a clash, and nothing else is said.
+//! A clash comes first: two different units of one digest, one in each journal. Then nothing else is said.
 //!
 //! The cost is that of reading each journal once: units are found by their names, and equivocations by
 //! creator and sequence number.

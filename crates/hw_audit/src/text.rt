@@ -21,8 +21,8 @@ pub const CONFLICT: u8 = 3;
 /// The status with which a program ends whose audit reports a clash.
 const CLASH: u8 = 9;
 
-/// The status with which a program ends whose audit reports this verdict: 0 where the nodes agree, 3 where they are
-/// in conflict, and 9 where two different units have one digest.
+/// The status of a program whose audit reports this verdict. It is 0 where the nodes agree, 3 where they are in
+/// conflict, and 9 where two different units have one digest.
 pub fn status_of(verdict: &Verdict) -> u8
     ensures { result ≡ status_of verdict.now }
 {

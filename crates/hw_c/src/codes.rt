@@ -78,7 +78,7 @@ pub const BAD_CONFIG: u32 = 0x200;
 /// The verdict was no.
 pub const BAD_SIGNATURE: u32 = 0x300;
 
-/// The two units of an evidence are no equivocation: the last digit says why.
+/// The two units of an evidence don't show an equivocation here: the last digit says why.
 pub const BAD_PAIR: u32 = 0x310;
 
 /// Another unit has this digest. The field `digest` has it.

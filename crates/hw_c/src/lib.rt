@@ -259,7 +259,8 @@ pub extern "C" fn hw_with_signature(
     put_bytes_with(outcome, buf, len, answer)
 }
 
-/// Audits the journals of two nodes against each other, and writes the result as text too. The two handles differ.
+/// Audits the journals of two nodes against each other, and writes the result as text too. The two handles must
+/// be different ones.
 #[unsafe(no_mangle)]
 pub extern "C" fn hw_audit(
     alloc: Global,

@@ -31,7 +31,7 @@ pub struct Judged {
 }
 
 /// The certificate of the decided block of that place, as bytes. `OutOfRange` where fewer blocks are decided, `Nothing`
-/// where the block is not certain now, and `TooLong` where the vertices are too many.
+/// where the node can't certify the block now, and `TooLong` where the vertices are too many.
 pub fn certificate(alloc: Global, core: &mut Core, index: u64) -> Result<Bytes, Fault>
     ensures made { IsCertificate core.old index result }
     ensures unchanged { core.new ≡ core.old }

@@ -10,8 +10,8 @@ use Rattle.hw_commands.specs.Program.{Held, Part, ended, mend_said, migrate_said
 abbrev pub with_file : Held → Word → Option (List ℕ) → Held
 with_file held name file = λ other. if bytes_eq other name then file else held other
 
--- A file is due where a run reads it. Were it missing, the run would end with a read fault. Were it empty, it would
--- not.
+-- A file is due where a run reads it. Were it missing, the run would end with a read fault. Were the
+-- file empty, the run would not.
 pub record IsDue (said : Held → Part Ended) (held : Held) (name : Word) : Type 0 where
   pub missing : (ended (said (with_file held name None))).status ≡ 4
   pub empty : (ended (said (with_file held name (Some [])))).status ≢ 4

@@ -45,8 +45,8 @@ pub record AreToldAll {B K : Type 0} (sight : Sight B K) (core : CoreState) (old
   -- handed in with nothing taken, each one left took the whole decided chain and was finished once
   pub took : HaveGot sight [] 0 old → HaveGot sight (told_chain core) 1 new
 
--- The log's entries before the one that stopped it so left a node. They received the blocks up to it, and no call that
--- says that none follows.
+-- The log's entries before the one that stopped it so left a node. The consumers received the blocks up to that node.
+-- No call told them that none follows.
 pub record AreToldSome {B K : Type 0} (sight : Sight B K) (tells : Bool) (log : Option (List ℕ)) (e : StartFault) (old new : List B) : Type 0 where
   pub kept : FanoutState B
   pub part : AreFedTo sight tells (file_begun None log) e (λ (core : CoreState). first_moment core.config old (first_kept old)) new kept

@@ -26,7 +26,7 @@ use Rattle.hw_commands.specs.Audited.{verdict_ended}
 use Rattle.hw_commands.specs.Eras.{era_audit_ended}
 use Rattle.hw_commands.specs.Program.{Held, done, log_replayed, replay_said, explain_said, audit_said, era_audit_said, run_of}
 
--- Two logs of one configuration report conflicting final blocks: neither chain begins the other. Where no two units
+-- Let two logs of one configuration report conflicting final blocks: neither chain begins the other. Where no two units
 -- clash, the run of their audit says so.
 abbrev pub ConflictIsReported : Type 0
 ConflictIsReported = (words : List Word) (held : Held) (left right : Word) (first second : Taken)

@@ -214,7 +214,7 @@ request_said held (Some (Sim number nodes steps)) = sim_said number nodes steps
 request_said held (Some (Eras logs)) = eras_said held logs
 request_said held (Some (EraAudit left right)) = era_audit_said held left right
 
--- How a run ends and what it writes, by its words and what the files hold. Nothing of the outside fails, and there is
--- memory.
+-- How a run ends and what it writes, by its words and what the files hold, where nothing of the outside fails and
+-- memory is enough.
 unfoldable pub run_of : List Word → Held → Ended
 run_of words held = ended (request_said held (request_of words))

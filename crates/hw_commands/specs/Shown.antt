@@ -24,7 +24,7 @@ abbrev pub IsShown : ℕ → Type 0
 IsShown status = (status ≡ 0) ⊎ (status ≡ 3) ⊎ (status ≡ 9)
 
 -- The one file holds this certificate, and the other file holds keys. By these the signatures of each vertex are right.
--- This is the node of its vertices, which alone finalize its block while the faulty weigh no more than the threshold.
+-- This is the node of its vertices. They alone make its block final, while the faulty weigh no more than the threshold.
 pub record IsShownBy (held : Held) (file keys : Word) (certificate : Certificate) (core : CoreState) : Type 0 where
   pub bytes : List ℕ
   pub there : held file ≡ Some bytes

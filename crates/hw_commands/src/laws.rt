@@ -28,8 +28,8 @@ pub fn a_migrated_log_reads_the_same()
     ensures { ReadsTheSame }
 {}
 
-/// With files that can be read, a request about a certificate is answered: the status is one of these. By the top
-/// call's clause `complete` it is that or out of memory, where nothing of the outside fails.
+/// With files that can be read, a request about a certificate is answered: the status is one that these clauses list.
+/// By the top call's clause `complete` it is that status or 7, where nothing of the outside fails.
 pub fn certificates_are_answered()
     ensures asked { LogIsAnswered }
     ensures checked { CheckIsAnswered }

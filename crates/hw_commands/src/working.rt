@@ -85,7 +85,7 @@ pub fn work<F: Files, S: Sink>(
     // names culprits, each by two signed units, and they weigh more than the threshold.
     ensures conflict { IsTrue F.tells → result ≡ 3 → ReportsConflict words.now (F.held files.old) (run_of words.now (F.held files.old)).text ⊎ ContradictsCertificate words.now (F.held files.old) (run_of words.now (F.held files.old)).text ⊎ ReportsEraConflict words.now (F.held files.old) (run_of words.now (F.held files.old)).text }
 
-    // Where a check has one of these statuses, the certificate's vertices alone finalize its block, and by the keys
+    // Where a check has one of these statuses, the certificate's vertices alone make its block final, and by the keys
     // each is signed.
     ensures certified { IsTrue F.tells → IsShown result → IfChecks (ShowsCertificate (F.held files.old)) (request_of words.now) }
 

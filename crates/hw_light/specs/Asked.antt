@@ -41,8 +41,8 @@ IfAnswered P (asked.Answered certified) = IfMade P certified
 
 -- ---- what is reported of it
 
--- no decided block has the digest; or the block has no summit now; or its certificate would have this many vertices,
--- too many; or it has this many
+-- No decided block has the digest. Or the block has no summit now. Or its certificate would have this many vertices,
+-- too many. Or it has this many.
 pub data Outcome : Type 0 where
   NoDecision : Outcome
   NoStanding : Outcome

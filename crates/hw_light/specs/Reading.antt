@@ -112,7 +112,7 @@ Gives view (Err e) read = Fails e read
 abbrev pub IsReadAs : Result Certificate CertError → Certificate → Type 0
 IsReadAs result c = (result ≡ Ok c) ⊎ (result ≡ Err OutOfMemory)
 
--- it is out of memory, or it is the first error in reading order, with its place
+-- memory ran out, or this is the first error in reading order, with its place
 abbrev pub IsErrorOf : Result Certificate CertError → CertError → Type 0
 IsErrorOf read e = (e ≡ OutOfMemory) ⊎ (read ≡ Err e)
 

@@ -7,11 +7,11 @@ use Rattle.hw_types.specs.Spelling.{u32_bytes, counted, config_bytes, vertex_byt
 use Rattle.hw_codec.specs.Ranges.{DigestInRange, ConfigInRange, VertexInRange}
 use Rattle.hw_light.specs.declared.certificate.Certificate.{Certificate}
 
--- a text after its length
+-- a text, with its length before it
 abbrev pub part_bytes : List ℕ → List ℕ
 part_bytes text = u32_bytes (length text) ++ text
 
--- a vertex after its length
+-- a vertex, with its length before it
 abbrev pub counted_vertex : Vertex → List ℕ
 counted_vertex v = part_bytes (vertex_bytes v)
 

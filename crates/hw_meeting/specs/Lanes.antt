@@ -1,4 +1,4 @@
--- What a node's graph and its journal have of each validator, as tables have it.
+-- What a node's graph and its journal have of each validator, as tables keep it.
 -- Source: ours.
 use Rattle.std.specs.Prelude.{◌≡◌, ℕ, ◌+◌, ◌<◌, ◌≤◌, Bool, true, false, List, length, Option, Some, None, slice_index_or}
 use Rattle.hw_types.specs.declared.unit.Digest.{Digest}

@@ -11,7 +11,7 @@ use Rattle.hw_meeting.specs.Frames.{meeting_bytes, meeting_of}
 
 -- ---- what is sent
 
--- a frame after its length
+-- a frame, with its length before it
 abbrev pub framed : MeetingFrame → List ℕ
 framed f = behind_length (meeting_bytes f)
 

@@ -111,8 +111,8 @@ MeetingsSayWhatStood = (side : Side) (c : CoreState) (judge : Vertex → Bool) (
 
 -- ---- completeness
 
--- The peer sends the frames that are due, with what it would still send, and doesn't end, and no count of the outside
--- rose. Then a meeting ends as done, or out of memory.
+-- Where the peer sends the frames that are due, with what it would still send, it doesn't end, and no count of the
+-- outside rises. Then a meeting ends as done, or out of memory.
 abbrev pub MeetingsAreComplete : Type 0
 MeetingsAreComplete = (side : Side) (c : CoreState) (judge : Vertex → Bool) (read written : List ℕ) (m : CoreState) (ends_old ends_new : ℕ) (e : MeetEnd) → Meets side c judge read written m ends_old ends_new e
     → (more : List ℕ) → length (read ++ more) ≤ byte_limit → (met side c judge (read ++ more)).end ≡ by.Done → (ends_new ≡ raised ends_old → ⊥)
@@ -122,8 +122,8 @@ MeetingsAreComplete = (side : Side) (c : CoreState) (judge : Vertex → Bool) (r
 
 -- ---- ranges
 
--- All that a node says in a meeting that ended as done is in the ranges of its types, where its journal is. That is the
--- journal's length, and each vertex.
+-- All that a node says in a meeting that ended as done is in the ranges of its types, where its journal's length and
+-- each of its vertices are.
 abbrev pub MeetingsSayInRange : Type 0
 MeetingsSayInRange = (side : Side) (c : CoreState) (judge : Vertex → Bool) (bytes : List ℕ) → config_fault c.config ≡ None → length c.journal < 2 ^ 64 → All VertexInRange c.journal
     → (met side c judge bytes).end ≡ by.Done → All MeetingInRange (met side c judge bytes).said

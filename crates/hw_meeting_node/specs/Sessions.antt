@@ -150,7 +150,7 @@ CallsPeer address c judge m old new e = MeetsPeer Caller (Some address) c judge 
 abbrev pub HostsPeer : CoreState → (Vertex → Bool) → CoreState → DoorTold → DoorTold → MeetEnd → Type 0
 HostsPeer c judge m old new e = MeetsPeer Host None c judge m old new e
 
--- it was out of memory to accept or to dial a peer, and nothing was done
+-- memory ran out before a peer was accepted or dialled, and nothing was done
 pub record MeetsNone (c m : CoreState) (old new : Option (List Session)) (e : MeetEnd) : Type 0 where
   pub ended : e ≡ end.OutOfMemory
   pub stands : m ≡ c

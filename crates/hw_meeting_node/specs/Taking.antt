@@ -120,7 +120,7 @@ pub record TakesPeer {T : Type 0} (step : TakeStep T) (side : Side) (address : O
   pub meets : MeetsPeer side address before.core judge after.core old new e
   pub took : Took step (taken_in side before.core judge) meets.read e before.taker after.taker
 
--- it was out of memory to accept or to dial a peer, and nothing was done
+-- memory ran out before a peer was accepted or dialled, and nothing was done
 pub record TakesNone {T : Type 0} (before after : WithTaker T) (old new : Option (List Session)) (e : MeetEnd) : Type 0 where
   pub meets : MeetsNone before.core after.core old new e
   pub stays : after.taker ≡ before.taker

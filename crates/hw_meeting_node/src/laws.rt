@@ -22,7 +22,7 @@ pub fn meetings_are_done()
 {}
 
 /// What a node says in a meeting that ended as done is in the ranges of its types, where its journal is. The
-/// journal of each node in hand is in range.
+/// journal of each node that a caller has is in range.
 pub fn meetings_say_what_is_in_range()
     ensures { MeetingsSayInRange }
 {}

@@ -1,4 +1,4 @@
--- A session that nothing outside disturbs ends as both said: the statements.
+-- A session that nothing outside disturbs ends as Done: the statements.
 -- Source: ours.
 use Rattle.std.specs.Prelude.{◌≡◌, ◌⊎◌, ℕ, ◌≤◌, Bool, List, ◌++◌, length, Option}
 use Rattle.hw_io.specs.Faults.{Rose, raised}
@@ -26,11 +26,11 @@ pub record IsUndisturbed (ends_old ends_new : ℕ) (e : SessionEnd) : Type 0 whe
   pub log : IsLogEnd log_old log_new e
   pub no_log : Rose log_old log_new → ⊥
 
--- it ended as both said, or out of memory
+-- it ended as Done, or memory ran out
 abbrev pub IsWhole : SessionEnd → Type 0
 IsWhole e = (e ≡ end.Done) ⊎ (e ≡ end.OutOfMemory)
 
--- What the peer sent, with what it would still send, are frames of a whole session, up to its Done. Then a node that
+-- Where what the peer sent, with what it would still send, are frames of a whole session, up to its Done, a node that
 -- serves it ends so.
 abbrev pub ServesAreComplete : Type 0
 ServesAreComplete = (n m : NodeState) (read written : List ℕ) (tells : Bool) (held_old held_new : List ℕ → Option (List ℕ)) (ends_old ends_new : ℕ) (e : SessionEnd)

@@ -38,7 +38,7 @@ plain_sight = seen (λ b. Some b) (λ b. 0) (λ b. 0) (λ b. tt)
 abbrev pub all_took : List (ℕ × List ℕ) → List Consumed → List Consumed
 all_took blocks consumers = map (with_more blocks) consumers
 
--- each of them took these blocks too, and then that no block follows
+-- each of them took these blocks too, and then its `finish` was called
 abbrev pub all_finished : List (ℕ × List ℕ) → List Consumed → List Consumed
 all_finished blocks consumers = map (λ c. after_finish (answer_of None) (with_more blocks c)) consumers
 

@@ -52,8 +52,8 @@ pub record MayBeTold (c d : CoreState) (judge : Vertex → Bool) : Type 0 where
   pub short : length (sent_bytes (words_to c d)) ≤ byte_limit
   pub takes : AllByRecursion (λ a. IsOk a) (answers_from (setting_of d.config) d.journal (judged judge (due_to (setting_of c.config) c.journal d.journal)))
 
--- Two nodes of one configuration can say to each other all that is due, whatever they were asked before. Then they have
--- met, as a caller and a host, and each has what was due to it.
+-- Where two nodes of one configuration can say to each other all that is due, whatever they were asked before, they can
+-- have met, as a caller and a host. Then each has what was due to it.
 abbrev pub MeetingsAreThere : Type 0
 MeetingsAreThere = (config : Config) (left right : List (Vertex × Bool)) (asked_left asked_right : Option LastQuestion) (judge_left judge_right : Vertex → Bool)
     → (let l = node_of config left asked_left in let r = node_of config right asked_right in

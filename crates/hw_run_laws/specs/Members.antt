@@ -145,7 +145,7 @@ LivesAreThere = (me : ℕ) (a : Standing) (turns : List Turn) → me < length a.
 abbrev pub short_session : NodeState → List ℕ
 short_session n = framed (frame.Hello (instance_of n.core.config)) ++ framed frame.Done
 
--- Each node, dialled by such a peer, has a session that nothing disturbs and that ends as both said.
+-- Each node, dialled by such a peer, has a session that nothing disturbs and that ends as Done.
 pub record IsWholeServed (n : NodeState) (held : List ℕ → Option (List ℕ)) : Type 0 where
   pub written : List ℕ
   pub serves : Serves true (standing n held) (short_session n) written (standing n held) 0 0 end.Done

@@ -69,7 +69,7 @@ pub record LivesOn (me : ℕ) (n : NodeState) (events : List Event) (m : NodeSta
   pub name : m.log ≡ n.log
   pub life : logged_of m ≡ life_of (setting_of n.core.config) me (logged_of n) events
 
--- The first of these vertices, this many, reached the node, and nothing else happened to it.
+-- This many of these vertices, the first ones, reached the node, and nothing else happened to it.
 abbrev pub TakesSome : NodeState → List Vertex → NodeState → Type 0
 TakesSome n vs m = (count : ℕ) × ((me : ℕ) → LivesOn me n (arrivals n (take count vs)) m)
 

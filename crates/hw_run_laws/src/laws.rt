@@ -24,8 +24,8 @@ pub fn cut_runs_leave_prefixes<B, K>()
     ensures calls { (sight : Sight B K) → CutCalls sight }
 {}
 
-/// Take a session that nothing outside disturbs, with a peer that sends the frames of a whole session. It ends as both
-/// said, or out of memory.
+/// Take a session that nothing outside disturbs, with a peer that sends the frames of a whole session. It ends as
+/// Done, or out of memory.
 pub fn undisturbed_sessions_are_whole()
     ensures serving { ServesAreComplete }
     ensures driving { DrivesAreComplete }

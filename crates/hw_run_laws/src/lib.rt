@@ -4,9 +4,9 @@
 //! log makes no second unit of one number. A node is given up where an append fails or memory runs out. It starts again
 //! from its log, mended where that is torn.
 //!
-//! A session that nothing outside disturbs, with a peer that sends what is due, ends as both said, or out of memory.
+//! A session that nothing outside disturbs, with a peer that sends what is due, ends as Done, or out of memory.
 //!
-//! Each law whose premises are about nodes holds of nodes in hand. A call of these recalls what holds of its node, and
+//! Each law whose premises are about nodes holds of the nodes that a caller has. A call of these recalls what holds of its node, and
 //! asks only what its caller can show.
 //!
 //! The contract of a run that comes to its report says that each consumer that is left took the whole decided chain.

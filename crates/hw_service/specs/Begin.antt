@@ -32,7 +32,7 @@ names_of s = record { config = s.config.now; keys = s.keys.now; log = s.log.now 
 
 -- ---- what is read
 
--- the configuration in the settings of a file, if it exists
+-- what the settings in a file give, if the file exists
 abbrev pub file_settings : Option (List ℕ) → Option (Result Config SettingsFault)
 file_settings (Some bytes) = Some (settings_of bytes)
 file_settings None = None

@@ -68,17 +68,17 @@ pub record NodeMeets (side : Side) (address : Option (List ℕ)) (tells : Bool) 
   pub meets : MeetsPeer side address old.node.core (verdict_of old.node.keys) new.node.core (sessions_told old.door) (sessions_told new.door) e
   pub left : Leaves e side old.node meets.read new.node tells old.files new.files
 
--- out of memory to take or to dial a peer, and nothing was done
+-- memory ran out before a peer was accepted or dialled, and nothing was done
 pub record NodeMeetsNone (tells : Bool) (old new : Talker) (e : MeetEnd) : Type 0 where
   pub ended : e ≡ end.OutOfMemory
   pub state : new.node ≡ old.node
   pub files : IsTrue tells → SameFiles old.files new.files
   pub told : new.door.sessions ≡ old.door.sessions
 
--- a node dialled this address and met the peer, or was out of memory to dial
+-- a node dialled this address and met the peer, or memory ran out before
 abbrev pub NodeCalls : List ℕ → Bool → Talker → Talker → MeetEnd → Type 0
 NodeCalls address tells old new e = NodeMeets Caller (Some address) tells old new e ⊎ NodeMeetsNone tells old new e
 
--- one was dialled and met the peer, or was out of memory to take one
+-- one was dialled and met the peer, or memory ran out before
 abbrev pub NodeHosts : Bool → Talker → Talker → MeetEnd → Type 0
 NodeHosts tells old new e = NodeMeets Host None tells old new e ⊎ NodeMeetsNone tells old new e

@@ -18,7 +18,7 @@ use Rattle.hw_service.specs.Steps.{Step, TakesAll, TakesUntil}
 
 -- ---- the end
 
--- the consumers were finished, as no block follows, and nothing else outside changed but the output
+-- the `finish` of each consumer was called, and nothing else outside changed but the output
 pub record Closes {B K : Type 0} (sight : Sight B K) (last : Scene B) (kept : FanoutState B) (after : Outside B) : Type 0 where
   pub finished : AreServed (IsFinished sight) last.around.consumers after.consumers last.kept kept
   pub files : after.files ≡ last.around.files
@@ -96,8 +96,8 @@ Proceeds sight stages first after (Err e) = StopsAtStep stages first after e ⊎
 
 -- ---- the whole run
 
--- whose run it is: how consumers are seen, whether the contents of its files are known, the names of its files, and
--- its validator, if it has one
+-- Whose run it is: how consumers are seen, and whether the contents of its files are known. Then the names of its
+-- files, and its validator, if it has one.
 pub record Runner (B K : Type 0) : Type 0 where
   pub sight : Sight B K
   pub tells : Bool

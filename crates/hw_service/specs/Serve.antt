@@ -13,7 +13,7 @@ use Rattle.hw_service.specs.Talk.{Talker, AcceptsOne}
 use Rattle.hw_service.specs.Run.{StepOver, runner}
 use Rattle.hw_service.specs.Held.{holds_session, Holds}
 
--- the node served a peer that came, or was out of memory to take one
+-- the node served a peer that came, or memory ran out before
 pub record ServesOne (tells : Bool) (old new : Talker) (e : SessionEnd) : Type 0 where
   pub served :
       ServesPeer tells (standing old.node old.files) (standing new.node new.files) (sessions_told old.door) (sessions_told new.door) e

@@ -3,8 +3,8 @@
 use Rattle.std.specs.Prelude.{◌≡◌, ℕ, ◌+◌, ◌<◌, Bool, false, ◌||◌, List, [], ◌∷◌, length, Result, Ok, Err}
 use Rattle.hw_service.specs.declared.fault.ServiceFault.{ServiceFault}
 
--- a step by its number: the states before and after it, and whether a call of the door failed in it, or why the run
--- ends with it
+-- A step by its number: the states before and after it. Then whether a call of the door failed in it, or why the run
+-- ends with it.
 abbrev pub Step : Type 0 → Type 1
 Step S = ℕ → S → S → Result Bool ServiceFault → Type 0
 

@@ -74,7 +74,7 @@ MakesUnit sight tells me moment old new result = MakesWith sight tells me moment
 
 -- ---- a peer
 
--- the node dialled the peer of this address, or was out of memory to dial; the peer has the marks that this left
+-- the node dialled the peer of this address, or memory ran out before; the peer has the marks that this left
 abbrev pub DrivesOne : {B : Type 0} → Bool → Scene B → Scene B → Peer → Peer → SessionEnd → Type 0
 DrivesOne tells old new before after e =
     DrivesPeer tells (string_bytes before.address) (driver_standing old.node before.mark old.around.files) (driver_standing new.node after.mark new.around.files) (sessions_told old.around.door) (sessions_told new.around.door) e
@@ -109,7 +109,7 @@ pub record Turning : Type 0 where
 abbrev pub turning : List Peer → Option (List ℕ) → Turning
 turning peers given = record { peers = peers; given = given }
 
--- the validator's unit was reported, and it dialled its peers one after the other
+-- the validator's unit was reported, and the validator dialled its peers one after the other
 pub record DrivesPeers {B K : Type 0} (sight : Sight B K) (tells : Bool) (me moment : ℕ) (old new : Scene B) (before after : List Peer) (result : Result Bool ServiceFault) : Type 0 where
   pub between : Scene B
   pub makes : MakesUnit sight tells me moment old between (Ok tt)

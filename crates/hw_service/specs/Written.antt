@@ -12,13 +12,13 @@ abbrev pub Writes : {T : Type 0} → Option (List ℕ) → Option (List ℕ) →
 Writes old new bytes (Ok x) = Appends old new bytes
 Writes old new bytes (Err e) = AppendsPrefix old new bytes
 
--- a write failed, or out of memory
+-- a write failed, or memory ran out
 abbrev pub IsOfOutput : ServiceFault → Type 0
 IsOfOutput fault.Write = Unit {0}
 IsOfOutput fault.OutOfMemory = Unit {0}
 IsOfOutput e = ⊥
 
--- the clash is answered as it is kept, or out of memory
+-- the clash is answered as it is kept, or memory ran out
 abbrev pub TellsClash : Option ClashUnits → ServiceFault → Type 0
 TellsClash kept (fault.Clash units) = kept ≡ Some units
 TellsClash kept fault.OutOfMemory = Unit {0}

@@ -17,7 +17,7 @@ pub enum ServiceFault {
     NoValidator,
     /// The text of the keys is wrong, first at this byte.
     Keys(u64),
-    /// No node follows from the log, for what is in it.
+    /// The log gives no node, because of what is in it.
     Log(StartFault),
     /// Two different units have one digest. A peer's vertex brought one of them.
     Clash(ClashUnits),
