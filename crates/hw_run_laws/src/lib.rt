@@ -6,8 +6,8 @@
 //!
 //! A session that nothing outside disturbs, with a peer that sends what is due, ends as Done, or out of memory.
 //!
-//! Each law whose premises are about nodes holds of the nodes that a caller has. A call of these recalls what holds of its node, and
-//! asks only what its caller can show.
+//! Each law whose premises are about nodes holds of the nodes that a caller has. A call of these recalls what holds of
+//! its node, and asks only what its caller can show.
 //!
 //! The contract of a run that comes to its report says that each consumer that is left took the whole decided chain.
 //! Where a fault, a clash or out of memory ends the run, and where a replay stops, each took a prefix of it.

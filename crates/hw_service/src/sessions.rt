@@ -41,8 +41,8 @@ pub struct Sessions<'w, T: Talk> {
 ///
 /// After each session the consumers get the new decided blocks. Then a line is written on how the session ended,
 /// unless it ended as Done. At the end each consumer's `finish` is called, and the report on the node is written. The
-/// report has the consumers that were dropped and the number of vertices that met a limit. A fault of a file or of the output,
-/// a clash or running out of memory ends the run at once.
+/// report has the consumers that were dropped and the number of vertices that met a limit. A fault of a file or of
+/// the output, a clash or running out of memory ends the run at once.
 pub fn hold_sessions<T: Talk, F: Files, S: Sink, D: Door>(
     alloc: Global,
     sources: Sources<'_>,

@@ -23,8 +23,8 @@ use std::alloc::Global;
 /// In each turn the validator makes its unit at the clock's moment, if there is one to make, and then dials each
 /// peer once. After each of these the consumers get the new decided blocks. Then a line is written on the unit, or on
 /// how the session ended, unless it ended as Done. At the end each consumer's `finish` is called, and the report on the
-/// node is written. The report has the consumers that were dropped, and the number of vertices and own units that met a limit.
-/// A fault of a file or of the output, a clash or running out of memory ends the run at once.
+/// node is written. The report has the consumers that were dropped, and the number of vertices and own units that met a
+/// limit. A fault of a file or of the output, a clash or running out of memory ends the run at once.
 pub fn run<F: Files, S: Sink, C: Clock, D: Door>(
     alloc: Global,
     sources: Sources<'_>,
