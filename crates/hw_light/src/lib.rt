@@ -11,8 +11,8 @@
 //! A check delivers the vertices to a new node. It answers yes where no vertex is refused, the faulty weigh no
 //! more than the threshold, and the block has a summit. So a yes shows that the vertices certify the block: it is
 //! decided. Another node that decided another block of that height is in a conflict with it, or the two clash. In a
-//! conflict the culprits weigh more than the threshold. A certificate that was made is answered yes where its signatures
-//! are right.
+//! conflict the culprits weigh more than the threshold. A certificate that was made is answered yes where its
+//! signatures are right.
 #![tactic(auto)]
 
 mod answers;

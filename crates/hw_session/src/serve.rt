@@ -111,8 +111,8 @@ impl Node {
         Ok(heard.next)
     }
 
-    /// Answers the frame that begins at this place of the session. A first frame that is no Hello ends it as `BadFrame`,
-    /// and so does a later one that is.
+    /// Answers the frame that begins at this place of the session. A first frame that is no Hello ends it as
+    /// `BadFrame`, and so does a later one that is.
     fn answer<D: Door, F: Files>(
         &mut self,
         door: &mut D,
