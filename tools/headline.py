@@ -74,7 +74,7 @@ Not listed: what the clauses say of failing reads and writes, of memory that run
 commands; {types} types of the code, as `Digest`; {words} words of the toolchain's library, as `filter`.
 [DEFINITIONS.md](DEFINITIONS.md) explains the protocol's part with examples, and how to read a definition.
 
-Three definitions are worked out, and a law says what they are. In their place here are the definitions of the law.
+Three definitions are worked out, and a law says what they are. In their place this page has the definitions of the law.
 
 | Worked out | The law | Believed in its place |
 |---|---|---|

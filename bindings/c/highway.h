@@ -1,11 +1,11 @@
-/* The proved core of a Highway validator, for C. Link libhw_c.a and then liblibc_c.a, which stands in the kit's c/.
+/* The proved core of a Highway validator, for C. Link libhw_c.a and then liblibc_c.a, which is in the kit's c/.
  *
  * Ownership. A caller owns an hw_core, {0} at first. hw_core_new fills an empty one, hw_core_free empties it. A call
  * with an empty one answers HW_EMPTY. It is never copied while it is full. Bytes that go in are read during the call
  * alone. Bytes that come out go into the caller's buffer.
  * Buffers. A call that writes bytes writes as many as fit into buf[0..room], and says the length of all of them: where
  * that is more than room, call again with more room. Pointers are never NULL, not even for 0 bytes, and what they
- * point to doesn't overlap. After an error what they point to is as it was; but an hw_answer says what stands behind
+ * point to doesn't overlap. After an error what they point to is as it was; but an hw_answer has the details of
  * the error.
  * Threads. A handle may go to another thread, and one call at a time uses it, also of those that only read. Two
  * handles are two: calls of them may overlap.
@@ -46,11 +46,11 @@ enum {
   HW_BAD_CERTIFIED_VERTEX = 0x520  /* + as HW_BAD_BYTES; at is the place of the vertex */
 };
 
-/* What stands behind a status; what it doesn't need is 0. Of a delivery the kind says what became of the vertex: 0
+/* The details of a status; what it doesn't need is 0. Of a delivery the kind says what became of the vertex: 0
  * count units settled, 1 it waits for count needs, 2 it breaks the rule of the number count, 3 it was there already. */
 typedef struct { uint32_t kind, count; uint64_t at; uint8_t digest[32]; } hw_answer;
 
-/* Where a vertex stands in the bytes that are handed over with it, and the verdict on its signatures: 0 no, 1 yes. */
+/* Where a vertex is in the bytes that are handed over with it, and the verdict on its signatures: 0 no, 1 yes. */
 typedef struct { uint64_t start, length; uint32_t verdict; } hw_sent;
 
 /* What the delivery of a vertex was answered. */
