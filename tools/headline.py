@@ -2,7 +2,7 @@
 """Writes docs/HEADLINE.md, or holds it against the definitions: headline.py [--check] [ROOT]
 
 The page lists the definitions that the clauses of `highway` on `replay`, `explain` and `audit` stand on. It is made
-from the files of definitions, `crates/*/specs/**/*.antt`: a definition stands on each other one that its text names.
+from the files of definitions, `crates/*/specs/**/*.antt`: a definition uses each other one that its text names.
 
 - ROOTS are what the clauses cite of the three commands. Of a definition that tells all commands, ONLY says which lines
   are theirs.
@@ -226,7 +226,7 @@ def closure(found, roots):
 
 
 def believed_below(found, full):
-    """The definitions that a definition stands on, those that are worked out replaced by what is believed."""
+    """The definitions that a definition uses, those that are worked out replaced by what is believed."""
     for name in found.below(full):
         if name in INSTEAD:
             yield from INSTEAD[name].believed
@@ -235,7 +235,7 @@ def believed_below(found, full):
 
 
 def by_files(found, ordered):
-    """The definitions by file: each file behind those that it stands on, and its definitions as they stand."""
+    """The definitions by file: each file after those that it uses, and its definitions in their order there."""
     files, done, begun = {}, [], set()
     for full in ordered:
         files.setdefault(found.by_name[full].module, []).append(full)

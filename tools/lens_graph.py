@@ -55,7 +55,7 @@ class Line:
 
 @dataclass(eq=False, slots=True)
 class Node:
-    """A unit of the journal. What stands behind `since` is there once it is settled."""
+    """A unit of the journal. The fields after `since` are there once it is settled."""
 
     unit: Unit
     signature: bytes

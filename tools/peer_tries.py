@@ -240,7 +240,7 @@ def send_slowly(stream, ended):
 def ask_for_all(stream, ended, instance):
     """Asks for the whole journal, 256 vertices at a time, and reads a byte each second, until it is let go.
 
-    The end of a stream stands behind all that wasn't read of it. So it asks again each second, which is answered by a
+    The end of a stream comes after all that wasn't read of it. So it asks again each second, which is answered by a
     reset where nobody is there any more."""
     stream.sendall((33).to_bytes(4) + HELLO_KIND + instance)
     for place in range(0, JOURNAL_ASKED, 256):

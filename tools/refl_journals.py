@@ -62,7 +62,7 @@ use Rattle.std.proofs.Common.{refl}
 
 
 def number_in(unit):
-    """A number that hangs on each field of a unit but its instance; CaseWords.antt has the same."""
+    """A number that depends on each field of a unit but its instance; CaseWords.antt has the same."""
     value = 0 if unit.value is None else 17 + sum(unit.value)
     fields = unit.creator * 7 + unit.seq * 5 + unit.time * 11 + unit.exponent * 3 + len(unit.panorama)
     return fields + value + len(unit.endorsed) * 13

@@ -3,7 +3,7 @@
 A check of a function looks at those that it calls too, though its proof cites only what they state. Here their bodies
 are `unreachable!()`, and the one goal of that is left open as a hole. The check goes past holes (`--allow-holes`), so
 the bodies that are left are checked against all contracts as they stand. A refusal of one of these for itself is what a
-check of the whole crate would say: it hangs on no other body. That nothing is refused here proves nothing.
+check of the whole crate would say: it depends on no other body. That nothing is refused here proves nothing.
 
 A body stays where leaving it out could change more than itself: one that a trait or an `impl` of a trait may pass on,
 of a `const fn`, in a cycle of calls, or whose type is hidden (`impl` in the head), and one whose goals a file of

@@ -33,7 +33,7 @@ from pathlib import Path
 DATA = Path(__file__).resolve().parent.parent / "crates" / "highway" / "data"
 NODE = ("settings.json", "keys")
 CALLS = "openat,write,writev,pwrite64,fsync,fdatasync,rename,renameat,renameat2,sendto,sendmsg"
-# What stands behind the name of a log until it has that name: such a file is made where there is no log.
+# What follows the name of a log until it has that name: such a file is made where there is no log.
 UNNAMED = ".part"
 # A call that strace wrote in one line: its name, its descriptor, the file or socket of that, and what it answered.
 CALL = re.compile(r"(?:\[pid +\d+\] |\d+ +)?(\w+)\((?:(\d+)<([^>]*)>)?.*\) += (-?\d+)")

@@ -14,7 +14,7 @@ sys.path.insert(0, os.path.dirname(os.path.abspath(__file__)))
 
 import bindings_archive as archive  # noqa: E402
 
-# A toolchain's module about crates: hw_c stands on low, in the folder that it is given.
+# A toolchain's module about crates: hw_c depends on low, in the folder that it is given.
 MODULE = '''
 import os
 KIT = os.path.dirname(os.path.dirname(os.path.abspath(__file__)))

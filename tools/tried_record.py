@@ -1,6 +1,6 @@
 """The record of tried pages, crates/NAME/must-fail/TRIED.md: what was refused, by which function, and over what.
 
-A page's checksum is over all that its verdict hangs on: its changes, the crate's own files and its line of crates.txt,
+A page's checksum is over all that its verdict depends on: its changes, the crate's own files and its line of crates.txt,
 and the interfaces of the libraries below (rattle_sources.py says what that is, and why it is enough). The toolchain's
 line stands in the head, apart from the checksums: another toolchain makes no record false that was made, but whoever
 has one may want all tried again."""
@@ -49,7 +49,7 @@ def base_of(crate, known):
 
 
 def checksum(page, base):
-    """Returns the checksum of all that the verdict on a page hangs on."""
+    """Returns the checksum of all that the verdict on a page depends on."""
     return sum_of(page.sum(), base.own, base.below)[:24]
 
 

@@ -195,7 +195,7 @@ fn certificate_fault(number: u32, at: u64) -> CertificateFault {
 }
 
 impl Error {
-    /// What the status of a call says, with what stands behind it.
+    /// What the status of a call says, with its details.
     pub(crate) fn check(status: u32, answer: &sys::Answer) -> Result<(), Error> {
         if status == OK { Ok(()) } else { Err(Error::of(status, answer)) }
     }

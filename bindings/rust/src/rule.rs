@@ -71,6 +71,6 @@ rules! {
     EndorsedUnseen = 17, "endorsed unit isn't below it";
     /// Two units of one creator, both naive for it, aren't comparable.
     Naive = 18, "naive";
-    /// It has a value, and stands on the configuration's last block.
+    /// It has a value, and its parent is the configuration's last block.
     AfterTerminal = 19, "after the last block";
 }
