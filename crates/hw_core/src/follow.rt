@@ -5,12 +5,12 @@ ghost use Rattle.hw_dag.specs.Dag.{graph};
 ghost use Rattle.hw_core.specs.{Decided.{IsToldOf, HasRoomFor}, Followed.{HasFollowed}};
 
 use crate::decided::Decided;
+use crate::entry::Entry;
 use hw_admit::State;
 use hw_dag::UnitNo;
-use hw_types::Vertex;
 
 /// Decides the blocks that stand now, and answers the fork choice. The vertex is in the journal already.
-pub fn follow(journal: &[Vertex], state: &mut State, decided: &mut Decided) -> Option<UnitNo>
+pub fn follow(journal: &[Entry], state: &mut State, decided: &mut Decided) -> Option<UnitNo>
     requires told { IsToldOf decided.old state.old }
     requires room { HasRoomFor decided.old (length (graph state.old.dag)) }
     ensures followed { HasFollowed state.old (length journal.now) decided.old decided.new result }

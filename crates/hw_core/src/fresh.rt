@@ -16,6 +16,7 @@ ghost use Rattle.hw_core.specs.Units.{IsNewUnit, IsPlaced};
 
 use crate::decided::Decided;
 use crate::digest_map::DigestMap;
+use crate::entry::Entry;
 use crate::journal::Journal;
 use crate::missing::missing;
 use crate::settle::settle_new;
@@ -24,7 +25,7 @@ use crate::unmet::is_whole;
 use hw_admit::State;
 use hw_dag::{NoRoom, Prepared};
 use hw_park::Park;
-use hw_types::{Cause, Digest, OutOfMemory, Receipt, Rule, SignedUnit, Vertex};
+use hw_types::{Cause, Digest, OutOfMemory, Receipt, Rule, SignedUnit};
 use std::alloc::Global;
 
 /// Takes the memory that a new unit can want, but for a list of its needs. The unit comes back copied,
@@ -115,7 +116,7 @@ fn let_go(no_room: NoRoom) -> OutOfMemory {
 /// is dropped; another one is parked. Where it is refused, nothing has changed.
 pub fn place_unit(
     alloc: Global,
-    journal: &[Vertex],
+    journal: &[Entry],
     park: &mut Park<Prepared>,
     dropped: &mut DigestMap<Rule>,
     state: &mut State,
@@ -143,7 +144,7 @@ pub fn place_unit(
 
 /// Judges a new unit that misses nothing. It settles with the units that it frees, or is dropped.
 fn settle_unit(
-    journal: &[Vertex],
+    journal: &[Entry],
     park: &mut Park<Prepared>,
     dropped: &mut DigestMap<Rule>,
     state: &mut State,
@@ -170,7 +171,7 @@ fn settle_unit(
 /// Parks a new unit that misses something, while there is room. Only now its needs are worked out.
 fn park_unit(
     alloc: Global,
-    journal: &[Vertex],
+    journal: &[Entry],
     park: &mut Park<Prepared>,
     state: &State,
     prepared: Prepared,

@@ -25,7 +25,7 @@ use crate::shown::Shown;
 use crate::start::begin;
 use crate::told::NotPut;
 use crate::units::{
-    NamedUnit, UnitRefused, add_unit, list_unit, test_local, test_named, unit_back,
+    NamedUnit, Placed, UnitRefused, add_unit, list_unit, test_local, test_named, unit_back,
 };
 use hw_admit::{State, StateFault};
 use hw_codec::digest_of;
@@ -273,8 +273,12 @@ impl CoreInner {
         // For the prover: recalls what is said of each graph.
         let _graph = self.state.dag();
         match added {
-            Ok(receipt) => {
-                list_unit(&mut self.names, &mut self.journal, unit, name);
+            Ok(placed) => {
+                let Placed {
+                    receipt,
+                    unit: shared,
+                } = placed;
+                list_unit(&mut self.names, &mut self.journal, shared, name);
                 if let Receipt::Admitted { .. } = receipt {
                     self.fork = follow(self.journal.as_slice(), &mut self.state, &mut self.decided);
                 }

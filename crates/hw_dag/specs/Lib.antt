@@ -4,6 +4,7 @@ pub mod Lanes
 pub mod Laws
 pub mod Skips
 pub mod SlotCodes
+pub mod SharedUnits
 pub mod Slots
 pub mod Tables
 pub mod Walks

@@ -30,6 +30,7 @@ mod order;
 mod preparing;
 mod scratch;
 mod settled;
+mod shared_unit;
 mod skips;
 
 pub use consistency::consistent;
@@ -49,3 +50,4 @@ pub use order::at_most;
 pub use preparing::{NoRoom, Prepared};
 pub use scratch::Marks;
 pub use settled::Unit;
+pub use shared_unit::SharedUnit;

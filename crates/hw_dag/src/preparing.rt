@@ -6,6 +6,7 @@ ghost use Rattle.hw_dag.specs.{Dag.{graph}, Admission.{IsFor, IsResolved, AllKno
 use crate::graph::Dag;
 use crate::numbers::{Panorama, UnitNo};
 use crate::settled::Unit;
+use crate::shared_unit::SharedUnit;
 use hw_types::{Digest, OutOfMemory, SignedUnit};
 use std::alloc::Global;
 use std::marker::Model;
@@ -16,12 +17,11 @@ pub struct NoRoom {
     pub unit: SignedUnit,
 }
 
-/// A unit with its name, and room for what it observes in numbers. The unit stands in a box: it is large, and moved
-/// from call to call.
+/// A unit with its name, and room for what it observes in numbers.
 #[derive(Drop)]
 pub struct Prepared {
     digest: Digest,
-    signed: Box<SignedUnit>,
+    signed: SharedUnit,
     panorama: Panorama,
 }
 
@@ -32,11 +32,11 @@ impl Model for Prepared {
 
     ghost view = { λ p. record {
       digest = p.digest;
-      signed = p.signed.value;
+      signed = p.signed;
       panorama = p.panorama;
     } };
 
-    ghost invariant = { λ p. HasSlots p.signed.value p.panorama };
+    ghost invariant = { λ p. HasSlots p.signed p.panorama };
 }
 
 impl Prepared {
@@ -53,15 +53,13 @@ impl Prepared {
         ensures returned { IfErr result (λ no_room. no_room.unit ≡ unit) }
     {
         match Panorama::new(alloc, validators) {
-            Ok(panorama) => match Box::new(alloc, unit) {
+            Ok(panorama) => match SharedUnit::new(alloc, unit) {
                 Ok(signed) => Ok(Prepared {
                     digest,
                     signed,
                     panorama,
                 }),
-                Err(refused) => Err(NoRoom {
-                    unit: refused.value,
-                }),
+                Err(unit) => Err(NoRoom { unit }),
             },
             Err(OutOfMemory) => Err(NoRoom { unit }),
         }
@@ -75,7 +73,7 @@ impl Prepared {
         ensures digest { self.new.digest ≡ self.old.digest }
     {
         dag.resolve_views(
-            self.signed.as_ref().unit.panorama.as_slice(),
+            self.signed.signed().unit.panorama.as_slice(),
             &mut self.panorama,
         )
     }
@@ -89,7 +87,7 @@ impl Prepared {
             signed,
             panorama,
         } = self;
-        Unit::settle(digest, Box::into_inner(signed), panorama, no, fork, height)
+        Unit::settle(digest, signed, panorama, no, fork, height)
     }
 
     /// Its name.
@@ -103,15 +101,14 @@ impl Prepared {
     pub fn signed(&self) -> &SignedUnit
         ensures { result.now ≡ self.now.signed }
     {
-        self.signed.as_ref()
+        self.signed.signed()
     }
 
-    /// Gives the unit back as its creator signed it, and its room up.
-    pub fn into_signed(self) -> SignedUnit
-        ensures { result ≡ self.signed }
+    /// The unit as its creator signed it, for its owners.
+    pub fn shared(&self) -> &SharedUnit
+        ensures { result.now ≡ self.now.signed }
     {
-        let Prepared { signed, .. } = self;
-        Box::into_inner(signed)
+        &self.signed
     }
 
     /// What it observes, in numbers. It means something once the unit is resolved.

@@ -4,6 +4,7 @@ ghost use Rattle.std.specs.Prelude.{◌≡◌, ◌<◌, length};
 ghost use Rattle.hw_dag.specs.{Dag.{creator_of}, Admission.{settled_as}, Tables.{predecessor_of}};
 
 use crate::numbers::{Panorama, UnitNo, View};
+use crate::shared_unit::SharedUnit;
 use hw_types::{Digest, SignedUnit};
 use std::marker::Model;
 
@@ -11,7 +12,7 @@ use std::marker::Model;
 #[derive(Drop)]
 pub struct Unit {
     digest: Digest,
-    signed: SignedUnit,
+    signed: SharedUnit,
     panorama: Panorama,
     vote: UnitNo,
     parent: Option<UnitNo>,
@@ -38,7 +39,7 @@ impl Unit {
     /// fork choice is another unit's vote.
     pub(crate) fn settle(
         digest: Digest,
-        signed: SignedUnit,
+        signed: SharedUnit,
         panorama: Panorama,
         no: UnitNo,
         fork: Option<UnitNo>,
@@ -46,7 +47,7 @@ impl Unit {
     ) -> Unit
         ensures { result ≡ settled_as (record { digest = digest; signed = signed; panorama = panorama }) no fork height }
     {
-        let is_block = signed.unit.value.is_some();
+        let is_block = signed.signed().unit.value.is_some();
         let (vote, parent, height) = if is_block {
             (no, fork, Some(height))
         } else {
@@ -67,7 +68,7 @@ impl Unit {
         requires { creator_of self.now < length self.now.panorama }
         ensures { result ≡ predecessor_of self.now }
     {
-        match self.panorama.get(self.signed.unit.creator) {
+        match self.panorama.get(self.signed().unit.creator) {
             View::Correct(no) => Some(no),
             View::Absent | View::Faulty => None,
         }
@@ -84,7 +85,7 @@ impl Unit {
     pub fn signed(&self) -> &SignedUnit
         ensures { result.now ≡ self.now.signed }
     {
-        &self.signed
+        self.signed.signed()
     }
 
     /// What it observes, in numbers.

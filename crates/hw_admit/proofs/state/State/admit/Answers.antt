@@ -12,7 +12,7 @@ use Rattle.hw_dag.proofs.AdmitLaws.{count_later, grows, later_apart}
 use Rattle.hw_rules.specs.Judged.{KeepsLocalRules}
 use Rattle.hw_admit.specs.Kept.{IsKept}
 use Rattle.hw_admit.proofs.KeptLaws.{kept_stays}
-use Rattle.hw_admit.specs.State.{NodeState, MarksAreMet, is_faulty_in, observed_in}
+use Rattle.hw_admit.specs.State.{NodeState, IsAdmitted, MarksAreMet, is_faulty_in, observed_in}
 use Rattle.hw_admit.proofs.RuleLaws.{fits, keeps, sound, listed, is_ready, noted_later, endorses_later, forkless_later}
 use Rattle.hw_admit.proofs.AdmitLaws.{is_state_later, seen_later, next_code}
 use Rattle.hw_admit.proofs.state.State.admit.Goals as goal
@@ -226,6 +226,14 @@ invariant_of-self c =
             (kept_stays c.self.inside.config.weights dag (with_unit dag (settled_from dag p fork)) (grows dag g p fork ready) g (later_apart dag g p fork ready) c.fork_choice-fork.new.self c.fork_choice-fork.ensures.kept);
       },
     )
+
+pub returns-clause-admitted : goal.returns-clause-admitted
+returns-clause-admitted c =
+    let fork = c.fork_choice-fork.result in
+    let resolved = subst (λ (s : NodeState). IsResolved s.dag c.args.prepared) (sym c.self.view_is) c.requires.resolved in
+    let choice = subst (λ (os : List Obs). option_map (λ (number : UnitNo). node_at c.self.inside.dag number.0) fork ≡ fork_of c.self.inside.config.weights (graph c.self.inside.dag) os) resolved.observes
+    (subst (λ (ws : List View). option_map (λ (number : UnitNo). node_at c.self.inside.dag number.0) fork ≡ fork_of c.self.inside.config.weights (graph c.self.inside.dag) (observations c.self.inside.dag ws)) c.panorama-2.ensures c.fork_choice-fork.ensures.fork) in
+    subst (λ (s : NodeState). IsAdmitted s.config.weights s.dag c.args.prepared c.admit-no.new.self) c.self.view_is (record { fork = fork; fork_is = choice; grown = c.admit-no.ensures.admitted })
 
 pub returns-clause-panorama : goal.returns-clause-panorama
 returns-clause-panorama c =

@@ -17,5 +17,5 @@ invariant_of-self-2 c =
     let same = ap (λ (vs : List Vertex). length vs) c.make_room.ensures.items in
     let last : c.len-place.result ≡ length inside.vertices.items = omega arith in
     let put = subst (λ (place : ℕ). HasOnePlaceMore inside.told.entries c.put_new_place.new.told.entries n place) last c.in_ok-put_new_place.ensures.put in
-    subst (λ (vs : List Vertex). AreTold vs c.put_new_place.new.told.entries) (sym (c.push_reserved.ensures.items ∙ ap (λ (vs : List Vertex). vs ++ v ∷ []) c.make_room.ensures.items))
+    subst (λ (vs : List Vertex). AreTold vs c.put_new_place.new.told.entries) (sym (c.push_reserved.ensures.items ∙ ap (λ (e : Vertex). c.make_room.new.vertices.items ++ e ∷ []) c.in-Ok.ensures.held ∙ ap (λ (vs : List Vertex). vs ++ v ∷ []) c.make_room.ensures.items))
     (told_put inside.vertices.items v n inside.told.entries c.put_new_place.new.told.entries refl put c.self.invariant)

@@ -1,4 +1,5 @@
 use Rattle.std.proofs.Common.{List, [], ◌∷◌, ◌++◌, refl, sym, ap, subst, ◌∙◌, arith}
+use Rattle.hw_types.specs.declared.unit.Evidence.{Evidence}
 use Rattle.hw_types.specs.declared.unit.Need.TheVariants as need
 use Rattle.hw_types.specs.declared.unit.Vertex.{Vertex}
 use Rattle.hw_types.specs.declared.unit.Vertex.TheVariants as vertex
@@ -24,6 +25,7 @@ pub invariant_of-self-2 : goal.invariant_of-self-2
 invariant_of-self-2 c =
     let inside = c.self.inside in
     let v : Vertex = vertex.Evidence c.args.evidence in
-    subst (λ (vs : List Vertex). AreTold vs c.tell_next.new.told.entries) (sym (c.push_reserved.ensures.items ∙ ap (λ (vs : List Vertex). vs ++ v ∷ []) c.tell_next.ensures.items))
+    let held = c.in-Ok-other.ensures.held ∙ ap (λ (e : Evidence). vertex.Evidence e) c.in-Ok.ensures in
+    subst (λ (vs : List Vertex). AreTold vs c.tell_next.new.told.entries) (sym (c.push_reserved.ensures.items ∙ ap (λ (e : Vertex). c.tell_next.new.vertices.items ++ e ∷ []) held ∙ ap (λ (vs : List Vertex). vs ++ v ∷ []) c.tell_next.ensures.items))
     (told_put inside.vertices.items v (need.Evidence c.args.evidence.left.unit.creator) inside.told.entries c.tell_next.new.told.entries refl
     (when_ok c.tell_next.result (sym c.is_err.ensures.value ∙ c.if-is_err.false) c.tell_next.ensures.put) c.self.invariant)

@@ -1,6 +1,7 @@
 use Rattle.std.proofs.Common.{◌≡◌, ◌+◌, ℕ, List, [], ◌∷◌, ◌++◌, true, None, Ok, length, sym, ap, subst, ◌∙◌}
 use Rattle.std.specs.Map.{lookup}
 use Rattle.hw_types.specs.declared.unit.Digest.{Digest}
+use Rattle.hw_types.specs.declared.unit.SignedUnit.{SignedUnit}
 use Rattle.hw_types.specs.declared.unit.Vertex.{Vertex}
 use Rattle.hw_types.specs.declared.unit.Vertex.TheVariants as vertex
 use Rattle.hw_types.specs.declared.answers.Decision.{Decision}
@@ -60,7 +61,7 @@ invariant_of-self c =
     let listed = c.list_unit.new in
     let setting = setting_of core.state.config in
     let before = c.add_unit-added.ensures.items in
-    let journal = c.list_unit.ensures.journal ∙ ap (λ (vs : List Vertex). vs ++ vertex.Unit u ∷ []) before in
+    let journal = c.list_unit.ensures.journal ∙ ap (λ (x : SignedUnit). done.journal.items ++ vertex.Unit x ∷ []) e.unit ∙ ap (λ (vs : List Vertex). vs ++ vertex.Unit u ∷ []) before in
     let entries = c.list_unit.ensures.names ∙ ap (λ (es : List (Digest × ℕ)). es ++ (c.args.name, length done.journal.items) ∷ []) c.add_unit-added.ensures.names
     ∙ ap (λ (vs : List Vertex). core.names.entries ++ (c.args.name, length vs) ∷ []) before in
     let new = subst (λ (k : CoreState). IsNewUnit k.config k.journal u c.args.name) (sym c.self.view_is) c.requires.new in
@@ -86,7 +87,7 @@ invariant_of-self-in_default c =
     let listed = c.list_unit.new in
     let setting = setting_of core.state.config in
     let before = c.add_unit-added.ensures.items in
-    let journal = c.list_unit.ensures.journal ∙ ap (λ (vs : List Vertex). vs ++ vertex.Unit u ∷ []) before in
+    let journal = c.list_unit.ensures.journal ∙ ap (λ (x : SignedUnit). done.journal.items ++ vertex.Unit x ∷ []) e.unit ∙ ap (λ (vs : List Vertex). vs ++ vertex.Unit u ∷ []) before in
     let entries = c.list_unit.ensures.names ∙ ap (λ (es : List (Digest × ℕ)). es ++ (c.args.name, length done.journal.items) ∷ []) c.add_unit-added.ensures.names
     ∙ ap (λ (vs : List Vertex). core.names.entries ++ (c.args.name, length vs) ∷ []) before in
     let new = subst (λ (k : CoreState). IsNewUnit k.config k.journal u c.args.name) (sym c.self.view_is) c.requires.new in
@@ -110,4 +111,4 @@ invariant_of-self-in-Err c =
     done.journal.items c.add_unit-added.ensures.items done.names.entries c.add_unit-added.ensures.names done.park e.unparked done.dropped.entries e.undropped done.dropped.room c.add_unit-added.ensures.places
 
 pub returns-after-receipt-clause-accepted : goal.returns-after-receipt-clause-accepted
-returns-after-receipt-clause-accepted c = subst (λ (k : CoreState). answer_in k (vertex.Unit c.args.unit) true ≡ Ok c.in-Ok.receipt) c.self.view_is c.in-Ok.ensures.placed.answer
+returns-after-receipt-clause-accepted c = subst (λ (k : CoreState). answer_in k (vertex.Unit c.args.unit) true ≡ Ok c.in-Ok.placed.receipt) c.self.view_is c.in-Ok.ensures.placed.answer
