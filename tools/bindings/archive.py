@@ -7,29 +7,17 @@ It proves hw_c over the libraries that the last `rt ci` left in each crate's out
 Where `rt check` or `rt lib` left libraries of its own there, `rt lib` builds the archive over those. It ends with 0
 where the archive is built, 3 where there is nothing to build it over, and else as the compiler did."""
 
-import importlib.machinery
-import importlib.util
 import os
-import shutil
 import subprocess
 import sys
 
 sys.dont_write_bytecode = True
+sys.path.insert(0, os.path.dirname(os.path.dirname(os.path.abspath(__file__))))
+
+from look.kit import toolchain  # noqa: E402
+
 ROOT = os.path.dirname(os.path.dirname(os.path.dirname(os.path.abspath(__file__))))
 NOTHING_BELOW = 3
-
-
-def toolchain():
-    """Returns the toolchain's own module about crates, or None where it has none that this script knows."""
-    rt = shutil.which("rt")
-    path = f"{os.path.dirname(os.path.realpath(rt))}/rtlib.py" if rt else ""
-    if not os.path.isfile(path):
-        return None
-    loader = importlib.machinery.SourceFileLoader("rtlib", path)
-    module = importlib.util.module_from_spec(importlib.util.spec_from_loader("rtlib", loader))
-    sys.modules["rtlib"] = module
-    loader.exec_module(module)
-    return module
 
 
 def command(rtlib, crate):

@@ -38,6 +38,7 @@ def crates_below(root):
 '''
 # What the toolchain's programs do: they note how they were called.
 NOTES = """#!{sh}
+[ "$1" = doc ] && echo "{work}/kit/page.md" && exit
 echo "$(basename "$0") in $(basename "$PWD"): $*" >> "{work}/called"
 {then}
 """
@@ -50,6 +51,7 @@ class Archives(unittest.TestCase):
         for name in ("kit/bin", "top/crates/hw_c", "top/crates/low"):
             os.makedirs(f"{self.work}/{name}")
         self.write("kit/bin/rtlib.py", MODULE)
+        self.write("kit/page.md", "")
         self.program("rt", "exit 0")
         self.program("rattle", 'for it; do file=$it; done; echo made > "$file"')
 
