@@ -10,12 +10,13 @@ from html import escape
 
 from lens.layout import LABEL_WIDTH, LETTER, TAG_HEIGHT, UNIT_HEIGHT, apart_text, unit_width
 from lens.log import value_text
+from lens.plain import FONT, with_plain
 
 COLOURS = (("#0072b2", "#ffffff"), ("#e69f00", "#000000"), ("#009e73", "#000000"),
            ("#56b4e9", "#000000"), ("#f0e442", "#000000"), ("#cc79a7", "#000000"))
 HEAD_LINE, TABLE_LINE, LEGEND_LINE = 18, 17, 26
 FINALS_MOST, TABLE_LETTERS = 8, 140
-WIDTH_LEAST = 760
+WIDTH_LEAST = 850
 LONG_TIME, YEAR_10000 = 10 ** 7, 253_402_300_800_000
 DISCLAIMER = (
     "This picture proves nothing. What is final, when, by which committee, and who is faulty is what the proved",
@@ -408,6 +409,7 @@ def picture(seen, scene, labels):
 def framed(inside, width, height):
     """An SVG file around what is drawn."""
     size = f'width="{number(width)}" height="{number(height)}" viewBox="0 0 {number(width)} {number(height)}"'
+    shapes = with_plain(f'{rect(0, 0, width, height, "paper")}\n{inside}', COLOURS)
     return (f'<?xml version="1.0" encoding="UTF-8"?>\n<!-- Drawn by tools/lens.py, which proves nothing. -->\n'
-            f'<svg xmlns="http://www.w3.org/2000/svg" class="hw" {size}>\n<style>{STYLE}{colour_rules()}</style>\n'
-            f'{rect(0, 0, width, height, "paper")}\n{inside}\n</svg>\n')
+            f'<svg xmlns="http://www.w3.org/2000/svg" class="hw" {FONT} {size}>\n<style>{STYLE}{colour_rules()}</style>\n'
+            f'{shapes}\n</svg>\n')
