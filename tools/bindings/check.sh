@@ -2,7 +2,7 @@
 # The bindings over the proved library: its archive, the numbers in all texts, the crate for Rust, the program in C.
 # What needs a tool that isn't here is left out, with a word. None of it is proved.
 set -uo pipefail
-cd "$(dirname "$0")/../.."
+cd "$(dirname "$0")/../.." || exit 2
 # An archive of another folder, which may be unproved, is not what is tested here.
 unset HIGHWAY_LIB_DIR
 failed=()

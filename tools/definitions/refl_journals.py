@@ -215,7 +215,9 @@ class Case:
         found = set()
         for answer in self.answers:
             is_told_more = answer[0] == "dropped" or answer[:2] in (("refused", "local"), ("refused", "pair"))
-            found.add(" ".join(str(part) for part in answer[: 3 if is_told_more else 2 if answer[0] == "refused" else 1]))
+            found.add(
+                " ".join(str(part) for part in answer[: 3 if is_told_more else 2 if answer[0] == "refused" else 1])
+            )
         found |= {f"decided {len(self.core.decisions)}", f"level {max([0, *(it.level for it in self.core.decisions)])}"}
         found |= {f"faulty {len(self.core.faulty())}", f"end {self.config.end is not None}", self.naming}
         return found
@@ -283,12 +285,19 @@ class Case:
         facts = self.facts(number)
         journal = list_of(self.vertex(it, number) for it in self.core.journal)
         other = list_of(self.vertex(it, number) for it in self.other.journal)
-        rows = [f"\n-- ---- case {number}\n\nabbrev s{number} : Setting\ns{number} = named_by {self.naming} ({config_text(self.config)})\n"]
+        rows = [
+            f"\n-- ---- case {number}\n\nabbrev s{number} : Setting\ns{number} = named_by {self.naming} ({config_text(self.config)})\n"
+        ]
         for name, unit in self.units.values():
             rows.append(f"\nabbrev {name} : WireUnit\n{name} = {unit_text(unit, self.reading.FAULTY)}\n")
-        rows.append(f"\nabbrev j{number} : List Vertex\nj{number} = {journal}\n\nabbrev r{number} : List Vertex\nr{number} = {other}\n")
+        rows.append(
+            f"\nabbrev j{number} : List Vertex\nj{number} = {journal}\n\nabbrev r{number} : List Vertex\nr{number} = {other}\n"
+        )
         rows.append(f"\nabbrev k{number} : Received\nk{number} = received_of s{number} j{number}\n")
-        rows.append(f"\npub record RandomCase{number} : Type 0 where\n" + "".join(f"  pub {name} : {fact}\n" for name, fact in facts))
+        rows.append(
+            f"\npub record RandomCase{number} : Type 0 where\n"
+            + "".join(f"  pub {name} : {fact}\n" for name, fact in facts)
+        )
         return "".join(rows), [name for name, _ in facts]
 
 
@@ -338,12 +347,21 @@ def write(crate, cases, reading, each):
             record, names = cases[number - 1].text(number)
             text.append(record)
             fields = "; ".join(f"{name} = refl" for name in names)
-            proofs.append(f"\nrandom_case_{number} : RandomCase{number}\nunfolding unfold_all unfold_decisions\nrandom_case_{number} = record {{ {fields} }}\n")
-        text.append(f"\n-- All of them.\npub record {file} : Type 0 where\n" + "".join(f"  pub case{it} : RandomCase{it}\n" for it in here))
+            proofs.append(
+                f"\nrandom_case_{number} : RandomCase{number}\nunfolding unfold_all unfold_decisions\nrandom_case_{number} = record {{ {fields} }}\n"
+            )
+        text.append(
+            f"\n-- All of them.\npub record {file} : Type 0 where\n"
+            + "".join(f"  pub case{it} : RandomCase{it}\n" for it in here)
+        )
         (crate / "specs" / f"{file}.antt").write_text("".join(text), encoding="utf-8")
-        imports.append(f"use Rattle.hw_samples.specs.{file}.{{{', '.join([*(f'RandomCase{it}' for it in here), file])}}}\n")
+        imports.append(
+            f"use Rattle.hw_samples.specs.{file}.{{{', '.join([*(f'RandomCase{it}' for it in here), file])}}}\n"
+        )
         whole = "; ".join(f"case{it} = random_case_{it}" for it in here)
-        proofs.append(f"\npub random_cases_{first // each + 1} : {file}\nrandom_cases_{first // each + 1} = record {{ {whole} }}\n")
+        proofs.append(
+            f"\npub random_cases_{first // each + 1} : {file}\nrandom_cases_{first // each + 1} = record {{ {whole} }}\n"
+        )
         files.append(file)
     imports.append("use Rattle.hw_samples.specs.Words.{unfold_decisions}\n")
     imports.append("use Rattle.hw_samples.specs.JournalWords.{unfold_all}\n")

@@ -283,7 +283,9 @@ def page_of(found):
         parts.append(f"| `{full.split('.')[-1]}` | `{it.law}` ({it.crate}) | {named} |\n")
     for module, names in by_files(found, ordered):
         path = found.by_name[names[0]].path
-        parts.append(f"\n## [{path.removeprefix('crates/')}](../{path})\n\n| Line | Definition | In plain words |\n|---|---|---|\n")
+        parts.append(
+            f"\n## [{path.removeprefix('crates/')}](../{path})\n\n| Line | Definition | In plain words |\n|---|---|---|\n"
+        )
         for full in names:
             it = found.by_name[full]
             parts.append(f"| {it.line} | `{it.name}` | {in_plain_words(full, it)} |\n")

@@ -46,8 +46,10 @@ def table(rows):
     words = [[str(word) for word in each] for each in [HEAD, *rows]]
     widths = [max(map(len, column)) for column in zip(*words)]
     for each in words:
-        cells = [word.ljust(width) if name in LEFT_BOUND else word.rjust(width)
-                 for name, word, width in zip(HEAD, each, widths)]
+        cells = [
+            word.ljust(width) if name in LEFT_BOUND else word.rjust(width)
+            for name, word, width in zip(HEAD, each, widths)
+        ]
         yield "  ".join(cells).rstrip()
 
 
@@ -64,8 +66,10 @@ def head_lines(look):
     entries = counted(len(log.entries), "entry", "entries")
     yield f"{look.path}: a log of version {log.version}, {entries} in {log.size} bytes"
     yield f"instance {config.instance.hex()}"
-    yield (f"{counted(len(config.weights), 'validator')} of weight {numbers(config.weights)}, together "
-           f"{look.reading.total}; threshold {config.threshold}, levels {config.levels}")
+    yield (
+        f"{counted(len(config.weights), 'validator')} of weight {numbers(config.weights)}, together "
+        f"{look.reading.total}; threshold {config.threshold}, levels {config.levels}"
+    )
     yield f"exponents {config.least} to {config.greatest}, leaders {leaders}{end}"
 
 

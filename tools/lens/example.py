@@ -2,8 +2,17 @@
 from dataclasses import replace
 
 from lens.log import (
-    Config, Endorsement, Evidence, SignedUnit, Unit, digest_of, endorsement_signature, spelled_config, unit_signature,
-    with_digest)
+    Config,
+    Endorsement,
+    Evidence,
+    SignedUnit,
+    Unit,
+    digest_of,
+    endorsement_signature,
+    spelled_config,
+    unit_signature,
+    with_digest,
+)
 
 EXAMPLE = """
 a0 by 0 at 16 cites - - - - block x

@@ -16,10 +16,25 @@ from dataclasses import dataclass, field
 from lens.log import ABSENT, FAULTY, Entry, Evidence, SignedUnit, Unit, digest_of
 
 RULES = {
-    1: "wrong-instance", 2: "unknown-creator", 3: "panorama-length", 4: "faulty-self", 5: "first-sequence",
-    6: "round-exponent", 7: "endorsed-order", 8: "no-block", 9: "slot-creator", 10: "sequence-number",
-    11: "inconsistent", 12: "time-goes-back", 13: "round-change", 14: "third-in-round", 15: "not-leader",
-    16: "endorsed-shrinks", 17: "endorsed-unseen", 18: "naive", 19: "after-terminal",
+    1: "wrong-instance",
+    2: "unknown-creator",
+    3: "panorama-length",
+    4: "faulty-self",
+    5: "first-sequence",
+    6: "round-exponent",
+    7: "endorsed-order",
+    8: "no-block",
+    9: "slot-creator",
+    10: "sequence-number",
+    11: "inconsistent",
+    12: "time-goes-back",
+    13: "round-change",
+    14: "third-in-round",
+    15: "not-leader",
+    16: "endorsed-shrinks",
+    17: "endorsed-unseen",
+    18: "naive",
+    19: "after-terminal",
 }
 SETTLED, PARKED, DROPPED = "settled", "parked", "dropped"
 
@@ -98,6 +113,7 @@ class Outcome:
 
 
 # ---- graph
+
 
 def on_lane(low, high):
     """Whether one settled unit is on the lane of another."""
@@ -179,6 +195,7 @@ def fork_choice(panorama, weights):
 
 # ---- rounds and leaders
 
+
 def chacha_words(key, stream):
     """The two first words of ChaCha8 with this key and stream."""
     start = [0x61707865, 0x3320646E, 0x79622D32, 0x6B206574, *struct.unpack("<8I", key)]
@@ -230,6 +247,7 @@ def witness_time(begin, exponent):
 
 
 # ---- rules
+
 
 def local_rule(config, unit):
     """The first of the rules 1 to 8 that the unit breaks, or 0."""
@@ -290,6 +308,7 @@ def pair_fault(config, left, right):
 
 
 # ---- the reading
+
 
 class Reading:
     """A journal that grows by the entries of a log, and what the definitions make of it."""

@@ -35,6 +35,7 @@ REFUSED = "refused"
 
 # ---- blocks and their labels
 
+
 @dataclass(frozen=True, slots=True)
 class Label:
     """How a block is written: its height, and a letter where several have that height. `colour` counts the palette."""
@@ -69,6 +70,7 @@ def block_labels(*readings):
 
 # ---- rounds
 
+
 class Rounds:
     """The rounds of the least exponent, counted from 1 at the first that a settled unit of these logs has."""
 
@@ -97,6 +99,7 @@ class Rounds:
 
 
 # ---- what a picture is made of
+
 
 @dataclass(slots=True)
 class Tag:
@@ -199,6 +202,7 @@ def unit_width(text):
 
 # ---- citations
 
+
 class Citations:
     """Which citations of settled units are drawn: those that follow from no other citation of the same unit."""
 
@@ -224,6 +228,7 @@ class Citations:
 
 
 # ---- columns
+
 
 def column_keys(nodes):
     """Each unit's column: its time, and how long a chain of citations of that same time leads to it."""
@@ -255,7 +260,7 @@ def tracks_of(nodes, keys):
     for start, chain in chains:
         free = (place for place, end in enumerate(ends) if end < start)
         track = len(ends) if len(ends) < TRACKS_APART else next(free, len(ends))
-        ends[track:track + 1] = [keys[chain[-1]]]
+        ends[track : track + 1] = [keys[chain[-1]]]
         tracks.update(dict.fromkeys(chain, track))
     return tracks
 
@@ -320,6 +325,7 @@ class Columns:
 
 # ---- tags
 
+
 def start_tags(scene, seen, labels):
     """Marks, for each final block that is drawn or whose committee is, where each member's starts of each level are."""
     for final in seen.finals:
@@ -379,6 +385,7 @@ def merge(tags):
 
 
 # ---- the whole
+
 
 def lay_out(seen, labels, rounds, asked=(None, None)):
     """The scene of a log that was read and judged: those of its rounds that are asked for."""
@@ -497,6 +504,7 @@ def join_lines(scene, drawn):
 
 # ---- what isn't settled
 
+
 def units_apart(seen, rounds, window):
     """Units of the log that aren't settled, in the order of their entries: parked, dropped, refused."""
     found = []
@@ -543,7 +551,7 @@ def pack(scene, found, columns, y):
         if row >= ROWS_APART_MOST:
             scene.apart_left += 1
             continue
-        ends[row:row + 1] = [one.x + one.width]
+        ends[row : row + 1] = [one.x + one.width]
         one.y = y + row * APART_ROW + APART_ROW / 2
         scene.width = max(scene.width, one.x + one.width + 20)
         scene.apart.append(one)

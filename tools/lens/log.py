@@ -41,6 +41,7 @@ class InputError(Exception):
 
 # ---- the model
 
+
 @dataclass(frozen=True, slots=True)
 class Unit:
     """A unit as it is spelled, and its digest, which is its name. `number` is the sequence number on the lane."""
@@ -149,6 +150,7 @@ class Log:
 
 # ---- spelling
 
+
 def digest_of(data):
     return hashlib.sha256(data).digest()
 
@@ -164,8 +166,14 @@ def spelled_tail(value, endorsed):
 
 
 def spelled_unit(unit):
-    head = (unit.instance + unit.creator.to_bytes(4) + unit.number.to_bytes(8) + unit.time.to_bytes(8)
-            + unit.exponent.to_bytes(1) + len(unit.panorama).to_bytes(4))
+    head = (
+        unit.instance
+        + unit.creator.to_bytes(4)
+        + unit.number.to_bytes(8)
+        + unit.time.to_bytes(8)
+        + unit.exponent.to_bytes(1)
+        + len(unit.panorama).to_bytes(4)
+    )
     return head + b"".join(map(spelled_observation, unit.panorama)) + spelled_tail(unit.value, unit.endorsed)
 
 
@@ -197,6 +205,7 @@ def spelled_config(config):
 
 # ---- reading from left to right
 
+
 class Cursor:
     """Bytes that are read from left to right; a field that doesn't fit in the rest is `truncated` where it begins."""
 
@@ -207,7 +216,7 @@ class Cursor:
         if len(self.data) - self.at < size:
             raise CodecError("truncated", self.at)
         self.at += size
-        return self.data[self.at - size:self.at]
+        return self.data[self.at - size : self.at]
 
     def number(self, size):
         return int.from_bytes(self.take(size))
@@ -250,7 +259,7 @@ def read_unit(cursor):
     time, exponent = cursor.time(), cursor.number(1)
     panorama = tuple(cursor.observation() for _ in range(cursor.count(MOST_VALIDATORS)))
     value, endorsed = cursor.tail()
-    name = digest_of(cursor.data[begin:cursor.at])
+    name = digest_of(cursor.data[begin : cursor.at])
     return Unit(instance, creator, number, time, exponent, panorama, value, endorsed, name)
 
 
@@ -311,6 +320,7 @@ def config_fault(config):
 
 # ---- the compact form of version 2
 
+
 class Lasts:
     """The last unit of each validator in a log of version 2; in version 1 there is none, and no compact form."""
 
@@ -335,10 +345,19 @@ class Lasts:
         if last is None:
             return spelled_vertex(vertex)
         unit = vertex.unit
-        changes = [slot.to_bytes(4) + spelled_observation(seen) for slot, seen in enumerate(unit.panorama)
-                   if slot != unit.creator and seen != last.panorama[slot]]
-        head = (b"\x04" + unit.creator.to_bytes(4) + unit.number.to_bytes(8) + unit.time.to_bytes(8)
-                + unit.exponent.to_bytes(1) + len(changes).to_bytes(4))
+        changes = [
+            slot.to_bytes(4) + spelled_observation(seen)
+            for slot, seen in enumerate(unit.panorama)
+            if slot != unit.creator and seen != last.panorama[slot]
+        ]
+        head = (
+            b"\x04"
+            + unit.creator.to_bytes(4)
+            + unit.number.to_bytes(8)
+            + unit.time.to_bytes(8)
+            + unit.exponent.to_bytes(1)
+            + len(changes).to_bytes(4)
+        )
         return head + b"".join(changes) + spelled_tail(unit.value, unit.endorsed) + vertex.signature
 
     def read(self, data):
@@ -383,6 +402,7 @@ def read_changes(cursor, creator, last):
 
 # ---- a log
 
+
 class LogReader:
     """Reads a log as its bytes come: `feed` takes more of them, `entries` gives those that are whole by now.
 
@@ -425,7 +445,7 @@ class LogReader:
         if len(held) < 9 + length:
             return False
         try:
-            config = read_config(bytes(held[9:9 + length]))
+            config = read_config(bytes(held[9 : 9 + length]))
         except CodecError as error:
             self.fail(f"config {error}", 9 + error.place)
         fault = config_fault(config)
@@ -491,7 +511,7 @@ def each_entry(path, reader=None, progress=None):
     reader = reader or LogReader(path)
     data = read_file(path)
     for begin in range(0, len(data), CHUNK):
-        reader.feed(data[begin:begin + CHUNK])
+        reader.feed(data[begin : begin + CHUNK])
         yield from reader.entries()
         if progress:
             progress(min(begin + CHUNK, len(data)), len(data))
@@ -542,6 +562,7 @@ def spelled_log(config, pairs, version=1):
 
 # ---- keys and signatures of a test network
 
+
 def read_keys(path, count=None):
     """The keys of a file, one a line: 64 lower-case hexadecimal digits and a line feed.
 
@@ -555,7 +576,7 @@ def read_keys(path, count=None):
             raise InputError(path, f"keys at {at}", at)
     if len(text) % 65 or (count is not None and len(text) < 65 * count):
         raise InputError(path, f"keys at {len(text)}", len(text))
-    return [bytes.fromhex(text[begin:begin + 64].decode("ascii")) for begin in range(0, len(text), 65)]
+    return [bytes.fromhex(text[begin : begin + 64].decode("ascii")) for begin in range(0, len(text), 65)]
 
 
 def unit_signature(key, unit):
@@ -583,6 +604,7 @@ def is_signed(vertex, keys):
 
 
 # ---- how things are printed
+
 
 def short(digest):
     """The first eight hexadecimal digits of a digest."""

@@ -15,8 +15,20 @@ from lens.layout import LABEL_WIDTH, Rounds, block_labels, lay_out
 from lens.log import ABSENT, FAULTY, Endorsement, Evidence, InputError, SignedUnit, value_text
 from lens.program import log_file, need_program
 from lens.seen import DIFFER, look
-from lens.svg import (DISCLAIMER, STYLE, bands, colour_rules, committee_text, drawing, head_lines, lane_labels, legend,
-                      legend_items, number, rect)
+from lens.svg import (
+    DISCLAIMER,
+    STYLE,
+    bands,
+    colour_rules,
+    committee_text,
+    drawing,
+    head_lines,
+    lane_labels,
+    legend,
+    legend_items,
+    number,
+    rect,
+)
 
 HERE = pathlib.Path(__file__).resolve().parent
 AXIS = 44
@@ -41,6 +53,7 @@ class Panel:
 
 
 # ---- the data of a log
+
 
 def gather_units(panel):
     """Numbers each unit that has an entry of its own, at its first one."""
@@ -74,19 +87,33 @@ def unit_data(panel, unit, entry, outcome):
     if node is not None and node.since > entry.place:
         became += f", {node.state} with entry {node.since}"
     vote = node.vote.unit.digest if node is not None and node.vote is not None and node.state == SETTLED else None
-    return {"digest": unit.digest.hex(), "creator": unit.creator, "number": str(unit.number), "time": str(unit.time),
-            "round": str(panel.rounds.number(unit.time)), "exponent": unit.exponent, "entry": entry.place,
-            "became": became, "value": None if unit.value is None else value_text(unit.value)[:VALUE_LETTERS],
-            "vote": panel.numbers[vote] if vote else None,
-            "panorama": [observation(panel, seen) for seen in unit.panorama],
-            "endorsed": [digest.hex() for digest in unit.endorsed], "judged": judged(panel, unit.digest),
-            "x": None if x is None else round(x, 1), "y": None if y is None else round(y, 1)}
+    return {
+        "digest": unit.digest.hex(),
+        "creator": unit.creator,
+        "number": str(unit.number),
+        "time": str(unit.time),
+        "round": str(panel.rounds.number(unit.time)),
+        "exponent": unit.exponent,
+        "entry": entry.place,
+        "became": became,
+        "value": None if unit.value is None else value_text(unit.value)[:VALUE_LETTERS],
+        "vote": panel.numbers[vote] if vote else None,
+        "panorama": [observation(panel, seen) for seen in unit.panorama],
+        "endorsed": [digest.hex() for digest in unit.endorsed],
+        "judged": judged(panel, unit.digest),
+        "x": None if x is None else round(x, 1),
+        "y": None if y is None else round(y, 1),
+    }
 
 
 def judged(panel, digest):
     """What the program says of a unit, in words."""
-    said = [f"final at height {final.height}: level {final.level}, quorum {final.quorum}, since entry "
-            f"{panel.seen.entry_of(final)}" for final in panel.seen.finals if final.digest == digest]
+    said = [
+        f"final at height {final.height}: level {final.level}, quorum {final.quorum}, since entry "
+        f"{panel.seen.entry_of(final)}"
+        for final in panel.seen.finals
+        if final.digest == digest
+    ]
     spot = panel.scene.spots.get(digest)
     if spot and spot.forked and spot.node.unit.creator in panel.seen.faulty:
         said.append(f"validator {spot.node.unit.creator} is faulty: another unit of it has this number")
@@ -113,8 +140,10 @@ class Walk:
         self.reading = Reading(self.seen.reading.config)
         self.finals, self.news = 0, {}
         for final in self.seen.finals:
-            said = (f"Block {panel.labels[final.digest].text} became final: level {final.level}, "
-                    f"quorum {final.quorum}, committee {committee_text(final.committee)}")
+            said = (
+                f"Block {panel.labels[final.digest].text} became final: level {final.level}, "
+                f"quorum {final.quorum}, committee {committee_text(final.committee)}"
+            )
             self.news.setdefault(self.seen.entry_of(final), []).append(said)
 
     def step(self, entry):
@@ -125,10 +154,16 @@ class Walk:
         newly = [who for who, since in reading.faulty_since.items() if since is entry and who in self.seen.faulty]
         fork = reading.fork()
         unit = entry.vertex.unit.digest if isinstance(entry.vertex, SignedUnit) else None
-        return {"what": entry_words(entry), "became": str(outcome), "unit": self.panel.numbers.get(unit),
-                "counts": [len(reading.order), len(reading.parked), len(reading.dropped)], "finals": self.finals,
-                "faulty": reading.faulty(), "fork": self.panel.numbers[fork.unit.digest] if fork else None,
-                "news": news + [f"validator {who} is faulty from here on" for who in newly]}
+        return {
+            "what": entry_words(entry),
+            "became": str(outcome),
+            "unit": self.panel.numbers.get(unit),
+            "counts": [len(reading.order), len(reading.parked), len(reading.dropped)],
+            "finals": self.finals,
+            "faulty": reading.faulty(),
+            "fork": self.panel.numbers[fork.unit.digest] if fork else None,
+            "news": news + [f"validator {who} is faulty from here on" for who in newly],
+        }
 
     def check(self, program, place):
         """Compares the walk at a place with what the program says of the log up to there. Answers what differs."""
@@ -153,20 +188,43 @@ def panel_data(panel, program):
     """All that the page's script knows of a log."""
     gather_units(panel)
     labels = {panel.numbers[digest]: label.text for digest, label in panel.labels.items() if digest in panel.numbers}
-    finals = [{"label": panel.labels[final.digest].text, "unit": panel.numbers[final.digest],
-               "level": final.level, "quorum": final.quorum, "entry": panel.seen.entry_of(final),
-               "committee": committee_text(final.committee)} for final in panel.seen.finals]
-    settings = {"name": panel.name, "labels": labels, "width": panel.scene.width,
-                "height": panel.scene.height + AXIS + 10, "label": LABEL_WIDTH, "axis": AXIS}
-    return {"settings": settings, "entries": walk_data(panel, program), "finals": finals,
-            "units": [unit_data(panel, *each) for each in panel.units]}
+    finals = [
+        {
+            "label": panel.labels[final.digest].text,
+            "unit": panel.numbers[final.digest],
+            "level": final.level,
+            "quorum": final.quorum,
+            "entry": panel.seen.entry_of(final),
+            "committee": committee_text(final.committee),
+        }
+        for final in panel.seen.finals
+    ]
+    settings = {
+        "name": panel.name,
+        "labels": labels,
+        "width": panel.scene.width,
+        "height": panel.scene.height + AXIS + 10,
+        "label": LABEL_WIDTH,
+        "axis": AXIS,
+    }
+    return {
+        "settings": settings,
+        "entries": walk_data(panel, program),
+        "finals": finals,
+        "units": [unit_data(panel, *each) for each in panel.units],
+    }
 
 
 # ---- the page's parts
 
-BUTTONS = (("first", "|◀", "to the beginning"), ("back", "◀", "an entry back"), ("on", "▶", "an entry on"),
-           ("last", "▶|", "to the end"), ("play", "play", "walk on by itself"),
-           ("final", "next event", "to the next entry with which a block became final, or a validator faulty"))
+BUTTONS = (
+    ("first", "|◀", "to the beginning"),
+    ("back", "◀", "an entry back"),
+    ("on", "▶", "an entry on"),
+    ("last", "▶|", "to the end"),
+    ("play", "play", "walk on by itself"),
+    ("final", "next event", "to the next entry with which a block became final, or a validator faulty"),
+)
 TOOLS = (("larger", "+", "larger"), ("smaller", "−", "smaller"), ("fit", "fit", "the whole width"))
 
 
@@ -184,10 +242,12 @@ def panel_html(panel):
     names = rect(0, 0, LABEL_WIDTH, height, "paper") + labels
     heads, count = head_lines(panel.seen, panel.scene), len(panel.seen.log.entries)
     sheet = svg(inside, width, height, "picture") + svg(names, LABEL_WIDTH, height, "names")
-    return (f'<section class="panel"><div class="name">{escape(heads[0])} <span>{escape(" · ".join(heads[1:]))}</span>'
-            f'<span class="tools">{buttons(TOOLS)}</span></div><div class="view"><div class="sheet">{sheet}</div></div>'
-            f'<div class="walk">{buttons(BUTTONS)}<input type="range" min="0" max="{count}" value="{count}" '
-            'aria-label="entry"><div class="said"></div></div></section>')
+    return (
+        f'<section class="panel"><div class="name">{escape(heads[0])} <span>{escape(" · ".join(heads[1:]))}</span>'
+        f'<span class="tools">{buttons(TOOLS)}</span></div><div class="view"><div class="sheet">{sheet}</div></div>'
+        f'<div class="walk">{buttons(BUTTONS)}<input type="range" min="0" max="{count}" value="{count}" '
+        'aria-label="entry"><div class="said"></div></div></section>'
+    )
 
 
 def svg(inside, width, height, kind):
@@ -205,8 +265,10 @@ def story(verdict, labels, names):
     if verdict.agree is not None:
         return [f"The program's audit: the two agree; the shorter chain has {verdict.agree} final blocks."]
     left, right = (digest_link(digest, "block " + labels[digest].text) for digest in (verdict.left, verdict.right))
-    lines = [f"The program's audit: a conflict at height {verdict.height}. "
-             f"{escape(names[0])} has {left}, {escape(names[1])} has {right}."]
+    lines = [
+        f"The program's audit: a conflict at height {verdict.height}. "
+        f"{escape(names[0])} has {left}, {escape(names[1])} has {right}."
+    ]
     for who, one, other in verdict.culprits:
         pair = f"{digest_link(one)} and {digest_link(other)}"
         lines.append(f"Culprit: validator {who}, by its two units {pair} of one number.")
@@ -235,14 +297,21 @@ def legend_html(panels):
 def page(panels, program, verdict):
     """The whole page. Data is written so that it can't end the script that holds it."""
     data = json.dumps([panel_data(panel, program) for panel in panels], separators=(",", ":"), ensure_ascii=True)
-    parts = {"TITLE": escape(" and ".join(panel.name for panel in panels)), "STYLE": STYLE + colour_rules(),
-             "HEADER": header(panels, verdict), "PANELS": "".join(map(panel_html, panels)),
-             "LEGEND": legend_html(panels), "FOOT": escape(" ".join(DISCLAIMER)),
-             "DATA": data.replace("<", "\\u003c"), "SCRIPT": (HERE / "page.js").read_text(encoding="utf-8")}
+    parts = {
+        "TITLE": escape(" and ".join(panel.name for panel in panels)),
+        "STYLE": STYLE + colour_rules(),
+        "HEADER": header(panels, verdict),
+        "PANELS": "".join(map(panel_html, panels)),
+        "LEGEND": legend_html(panels),
+        "FOOT": escape(" ".join(DISCLAIMER)),
+        "DATA": data.replace("<", "\\u003c"),
+        "SCRIPT": (HERE / "page.js").read_text(encoding="utf-8"),
+    }
     return re.sub("@([A-Z]+)@", lambda found: parts[found[1]], (HERE / "page.html").read_text(encoding="utf-8"))
 
 
 # ---- the command
+
 
 def blame(verdict):
     """The units that an audit's conflict is about, and what is said of each."""

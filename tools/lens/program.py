@@ -103,7 +103,7 @@ class Program:
         last = text.strip().splitlines()[-1:] or [f"status {status} without a line"]
         for word, name in names.items():
             if last[0].startswith(f"input {word}: "):
-                raise InputError(name, last[0][len(f"input {word}: "):])
+                raise InputError(name, last[0][len(f"input {word}: ") :])
         raise ProgramError(f"{self.path.name} {words[0]} ended with status {status}: {last[0]}", last[0])
 
     def replay(self, log):

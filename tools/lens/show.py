@@ -102,17 +102,22 @@ class Look:
         if not found:
             raise InputError(prefix, f"no unit of {self.path} has a digest that begins so")
         if len(found) > 1:
-            some = listed((digest.hex()[:len(prefix) + 4] for digest in found), 4)
+            some = listed((digest.hex()[: len(prefix) + 4] for digest in found), 4)
             raise InputError(prefix, f"{len(found)} units of {self.path} begin so: {some}")
         return found[0]
 
     def standing(self, digest):
         """The entries that hold this unit, alone or inside evidence, each with the signed unit there."""
-        return [(entry, signed) for entry in self.log.entries for signed in units_in(entry.vertex)
-                if signed.unit.digest == digest]
+        return [
+            (entry, signed)
+            for entry in self.log.entries
+            for signed in units_in(entry.vertex)
+            if signed.unit.digest == digest
+        ]
 
 
 # ---- words
+
 
 def units_in(vertex):
     """The signed units of a vertex."""
@@ -174,8 +179,10 @@ def vote_text(node):
 
 def final_text(final, weights):
     """A final block's line; with the starts of each member where the program gave them."""
-    members = (f"{who} (weight {weights[who]}) from {','.join(map(str, starts))}"
-               for who, starts in sorted(final.committee.items()))
+    members = (
+        f"{who} (weight {weights[who]}) from {','.join(map(str, starts))}"
+        for who, starts in sorted(final.committee.items())
+    )
     vertices = counted(final.at, "vertex", "vertices")
     committee = f"; committee {listed(members)}" if final.committee else ""
     return f"height {final.height} at level {final.level}, quorum {final.quorum}, since {vertices}{committee}"
@@ -189,6 +196,7 @@ def signed_text(signed, entry, keys):
 
 
 # ---- a unit in full
+
 
 def own_rows(unit, look):
     """What a unit says of itself, but for its panorama, as pairs of a name and a text."""

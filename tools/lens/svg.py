@@ -10,13 +10,20 @@ from html import escape
 
 from lens.layout import LABEL_WIDTH, LETTER, TAG_HEIGHT, UNIT_HEIGHT, apart_text, unit_width
 from lens.log import value_text
+from lens.plain import FONT, with_plain
 
-COLOURS = (("#0072b2", "#ffffff"), ("#e69f00", "#000000"), ("#009e73", "#000000"),
-           ("#56b4e9", "#000000"), ("#f0e442", "#000000"), ("#cc79a7", "#000000"))
+COLOURS = (
+    ("#0072b2", "#ffffff"),
+    ("#e69f00", "#000000"),
+    ("#009e73", "#000000"),
+    ("#56b4e9", "#000000"),
+    ("#f0e442", "#000000"),
+    ("#cc79a7", "#000000"),
+)
 HEAD_LINE, TABLE_LINE, LEGEND_LINE = 18, 17, 26
 FINALS_MOST, TABLE_LETTERS = 8, 140
-WIDTH_LEAST = 760
-LONG_TIME, YEAR_10000 = 10 ** 7, 253_402_300_800_000
+WIDTH_LEAST = 850
+LONG_TIME, YEAR_10000 = 10**7, 253_402_300_800_000
 DISCLAIMER = (
     "This picture proves nothing. What is final, when, by which committee, and who is faulty is what the proved",
     "program says of the log (explain, replay). Lanes, citations, votes and heights are this tool's own reading.",
@@ -75,6 +82,7 @@ def without_moments(said):
 
 # ---- colours
 
+
 def fill_of(label):
     """The class that fills with a block's colour. After six blocks colours come again; the label tells blocks apart."""
     return "none" if label is None else f"c{label.colour % len(COLOURS)}"
@@ -91,6 +99,7 @@ def colour_rules():
 
 
 # ---- lanes, rounds, citations
+
 
 def bands(scene, width):
     return "".join(rect(0, lane.top, width, lane.height, "band") for lane in scene.lanes[::2])
@@ -145,8 +154,10 @@ def gap(scene, each, axis):
     """A place where rounds without a unit are left out."""
     x = each.x - 34
     said = f"⋯ {each.empty}"
-    return (f'<path class="gap" d="M{number(x)} {number(axis + 4)}V{number(scene.bottom)}"/>'
-            + f'<g><title>{each.empty} rounds without a unit</title>{text(x + 3, axis + 14, said, "soft tag")}</g>')
+    return (
+        f'<path class="gap" d="M{number(x)} {number(axis + 4)}V{number(scene.bottom)}"/>'
+        + f'<g><title>{each.empty} rounds without a unit</title>{text(x + 3, axis + 14, said, "soft tag")}</g>'
+    )
 
 
 def citation_lines(scene):
@@ -170,8 +181,10 @@ def hub_lines(hub):
     way = "".join(f"M{number(spot.x)} {number(spot.y)}{middle}" for spot in hub.lows + hub.highs)
     said = f"each of the {len(hub.highs)} units on the right cites each of the {len(hub.lows)} on the left"
     since = from_entry(max(spot.node.since for spot in hub.highs))
-    return (f'<path class="cite"{since} d="{way}"/><g{since}><title>{said}</title>'
-            f'<circle class="dot" cx="{number(hub.x)}" cy="{number(hub.y)}" r="3.5"/></g>')
+    return (
+        f'<path class="cite"{since} d="{way}"/><g{since}><title>{said}</title>'
+        f'<circle class="dot" cx="{number(hub.x)}" cy="{number(hub.y)}" r="3.5"/></g>'
+    )
 
 
 def lane_lines(scene):
@@ -189,6 +202,7 @@ def lane_lines(scene):
 
 
 # ---- units
+
 
 def unit_words(unit, entry):
     name = unit.digest.hex()[:16]
@@ -259,9 +273,12 @@ def apart_marks(scene):
     for one in scene.apart:
         name, half = one.unit.digest.hex()[:16], UNIT_HEIGHT / 2
         title = f"{unit_words(one.unit, one.entry)}: {one.kind}, {one.why}"
-        parts.append(f'<g class="apart" data-unit="{name}"{from_entry(one.entry.place)}><title>{escape(title)}</title>'
-                     + rect(one.x, one.y - half, one.width, UNIT_HEIGHT, one.kind, half)
-                     + text(one.x + 7, one.y + 4, apart_text(one)) + "</g>")
+        parts.append(
+            f'<g class="apart" data-unit="{name}"{from_entry(one.entry.place)}><title>{escape(title)}</title>'
+            + rect(one.x, one.y - half, one.width, UNIT_HEIGHT, one.kind, half)
+            + text(one.x + 7, one.y + 4, apart_text(one))
+            + "</g>"
+        )
     return "".join(parts)
 
 
@@ -273,6 +290,7 @@ def drawing(scene, axis, width):
 
 # ---- head, table, legend, foot
 
+
 def head_lines(seen, scene):
     """What the picture is of. The first line is its title."""
     config, lines = seen.reading.config, [seen.name.rsplit("/", 1)[-1]]
@@ -280,9 +298,11 @@ def head_lines(seen, scene):
     (first, last), exceeded, base = scene.window, seen.report.exceeded, time_base(scene)
     shown = "" if (first, last) == (1, scene.all_rounds) else f" · rounds {first} to {last} of {scene.all_rounds}"
     lines.append(f"{len(seen.log.entries)} entries · {counts}{shown}")
-    lines.append(f"total weight {sum(config.weights)} · threshold {config.threshold} · levels {config.levels}"
-                 + (f" · faulty weight {exceeded} exceeds the threshold" if exceeded is not None else "")
-                 + (f" · times count from {base} ms{utc(base)}" if base else ""))
+    lines.append(
+        f"total weight {sum(config.weights)} · threshold {config.threshold} · levels {config.levels}"
+        + (f" · faulty weight {exceeded} exceeds the threshold" if exceeded is not None else "")
+        + (f" · times count from {base} ms{utc(base)}" if base else "")
+    )
     return lines + seen.notes
 
 
@@ -311,11 +331,13 @@ def final_lines(seen, scene, labels, most=FINALS_MOST):
     shown = [final for final in seen.finals if final.digest in scene.spots]
     lines = []
     for final in shown[:most]:
-        lines.append(f"block {labels[final.digest].text}: {final.digest.hex()[:8]}, level {final.level}, "
-                     f"quorum {final.quorum}, at {final.at}, committee {committee_text(final.committee)}")
+        lines.append(
+            f"block {labels[final.digest].text}: {final.digest.hex()[:8]}, level {final.level}, "
+            f"quorum {final.quorum}, at {final.at}, committee {committee_text(final.committee)}"
+        )
     if len(seen.finals) > len(lines):
         lines.append(f"and {len(seen.finals) - len(lines)} more, which `explain` prints")
-    cut = [line if len(line) <= TABLE_LETTERS else line[:TABLE_LETTERS - 2] + " …" for line in lines]
+    cut = [line if len(line) <= TABLE_LETTERS else line[: TABLE_LETTERS - 2] + " …" for line in lines]
     return cut or ["no block is final"]
 
 
@@ -352,7 +374,7 @@ def legend_mark(kind, x, y, what):
         shape = rect(x, top, wide, UNIT_HEIGHT, f"{fill_of(what)} g", 2 if kind != "unit" else UNIT_HEIGHT / 2)
         frame = rect(x - 3.5, top - 3.5, wide + 7, UNIT_HEIGHT + 7, "frame g", 3) if kind == "final" else ""
         middle = f'<g text-anchor="middle">{text(x + wide / 2, y + 4, said, ink_of(what))}</g>'
-        return f'{shape}{frame}{middle}', wide + (4 if kind == "final" else 0)
+        return f"{shape}{frame}{middle}", wide + (4 if kind == "final" else 0)
     if kind in ("start", "tag"):
         spot = Place(x + tag_width(what) / 2, y - UNIT_HEIGHT / 2 - 10)
         return f'<g class="u">{tag_shape(spot, what, 0)}</g>', tag_width(what)
@@ -408,6 +430,9 @@ def picture(seen, scene, labels):
 def framed(inside, width, height):
     """An SVG file around what is drawn."""
     size = f'width="{number(width)}" height="{number(height)}" viewBox="0 0 {number(width)} {number(height)}"'
-    return (f'<?xml version="1.0" encoding="UTF-8"?>\n<!-- Drawn by tools/lens.py, which proves nothing. -->\n'
-            f'<svg xmlns="http://www.w3.org/2000/svg" class="hw" {size}>\n<style>{STYLE}{colour_rules()}</style>\n'
-            f'{rect(0, 0, width, height, "paper")}\n{inside}\n</svg>\n')
+    shapes = with_plain(f'{rect(0, 0, width, height, "paper")}\n{inside}', COLOURS)
+    return (
+        f'<?xml version="1.0" encoding="UTF-8"?>\n<!-- Drawn by tools/lens.py, which proves nothing. -->\n'
+        f'<svg xmlns="http://www.w3.org/2000/svg" class="hw" {FONT} {size}>\n<style>{STYLE}{colour_rules()}</style>\n'
+        f"{shapes}\n</svg>\n"
+    )

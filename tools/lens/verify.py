@@ -1,6 +1,15 @@
 """`lens.py verify LOG KEYS`: checks each signature, and lists the entries whose verdict isn't what the keys say."""
 from lens.log import (
-    Endorsement, Evidence, LogReader, each_entry, is_signed, is_signed_unit, read_head, read_keys, short)
+    Endorsement,
+    Evidence,
+    LogReader,
+    each_entry,
+    is_signed,
+    is_signed_unit,
+    read_head,
+    read_keys,
+    short,
+)
 from lens.show import Progress, counted, named
 
 KINDS = ("unit", "evidence", "endorsement")

@@ -49,7 +49,11 @@ HELLO, VERTEX, DONE = b"\1", b"\2", b"\5"
 
 def cost(options, program, *words, environment=None):
     """What a run costs: millions of instructions where they are asked for, else seconds."""
-    return instructions_of(program, *words) / 1e6 if options.instructions else seconds_of(program, *words, environment=environment)
+    return (
+        instructions_of(program, *words) / 1e6
+        if options.instructions
+        else seconds_of(program, *words, environment=environment)
+    )
 
 
 def runs_of(options):
@@ -62,11 +66,15 @@ def medians(options, one, *others):
     ours, *theirs = zip(*[(one(), *[other() for other in others]) for _ in range(runs_of(options))])
     told = [statistics.median(ours)]
     for costs in theirs:
-        told += [statistics.median(costs), statistics.median(left / right if right else math.inf for left, right in zip(ours, costs))]
+        told += [
+            statistics.median(costs),
+            statistics.median(left / right if right else math.inf for left, right in zip(ours, costs)),
+        ]
     return told
 
 
 # ---- scripts
+
 
 def cited(slot, names):
     """The word for one slot of a panorama."""
@@ -99,6 +107,7 @@ def script_file(folder):
 
 
 # ---- a session
+
 
 def keys_of(validators):
     """A key for each validator."""
@@ -142,7 +151,9 @@ def served(program, folder, log, frames):
     """The seconds of one session in which a new node takes these frames. Its log stays in the folder."""
     folder.mkdir()
     (folder / "settings.json").write_text(settings_of(log.config), encoding="ascii")
-    (folder / "keys").write_text("".join(f"{key.hex()}\n" for key in keys_of(len(log.config.weights))), encoding="ascii")
+    (folder / "keys").write_text(
+        "".join(f"{key.hex()}\n" for key in keys_of(len(log.config.weights))), encoding="ascii"
+    )
     port = free_port()
     words = [program, "serve", "settings.json", "keys", "node.log", f"127.0.0.1:{port}", "1"]
     with subprocess.Popen(words, cwd=folder, stdout=subprocess.PIPE, stderr=subprocess.PIPE) as node:
@@ -180,9 +191,13 @@ def serve_row(options):
 
 # ---- the rows
 
+
 def shown(one, *others):
     """Numbers of seconds, each but the first with the ratio behind it."""
-    return [f"{one:.3f}", *[f"{number:.3f}" if place % 2 == 0 else f"{number:.2f}" for place, number in enumerate(others)]]
+    return [
+        f"{one:.3f}",
+        *[f"{number:.3f}" if place % 2 == 0 else f"{number:.2f}" for place, number in enumerate(others)],
+    ]
 
 
 def words_of(name, folder):
@@ -201,8 +216,15 @@ def beside_row(options, name):
     words = words_of(name, options.logs)
     said = " ".join(str(word.name) if isinstance(word, pathlib.Path) else word for word in words)
     if not options.beside:
-        return [said, f"{statistics.median(cost(options, options.program, *words) for _ in range(runs_of(options))):.3f}", "", ""]
-    others = [functools.partial(cost, options, options.beside, *words, environment=shade) for shade in environments(options)]
+        return [
+            said,
+            f"{statistics.median(cost(options, options.program, *words) for _ in range(runs_of(options))):.3f}",
+            "",
+            "",
+        ]
+    others = [
+        functools.partial(cost, options, options.beside, *words, environment=shade) for shade in environments(options)
+    ]
     return [said, *shown(*medians(options, lambda: cost(options, options.program, *words), *others))]
 
 
@@ -212,7 +234,9 @@ def version_row(options, words):
     newer = log.with_suffix(".version2")
     if not newer.exists():
         used(options.program, "migrate", log, newer)
-    one, other = (lambda: cost(options, options.program, "replay", newer)), (lambda: cost(options, options.program, "replay", log))
+    one, other = (lambda: cost(options, options.program, "replay", newer)), (
+        lambda: cost(options, options.program, "replay", log)
+    )
     return [words, *shown(*medians(options, one, other))]
 
 
@@ -255,10 +279,14 @@ def options_of(words):
     parser.add_argument("program", metavar="PROGRAM", nargs="?", help="the built program")
     parser.add_argument("names", metavar="NAME", nargs="*", help="which rows (all)")
     parser.add_argument("--beside", metavar="OTHER", help="another program, which is run in turn with it")
-    parser.add_argument("--without", metavar="NAME", help="run the other program without this variable of the environment too")
+    parser.add_argument(
+        "--without", metavar="NAME", help="run the other program without this variable of the environment too"
+    )
     parser.add_argument("--runs", type=int, default=15, help="how many runs of each (15)")
     parser.add_argument("--logs", type=pathlib.Path, default=pathlib.Path("logs"), help="the folder of the logs (logs)")
-    parser.add_argument("--instructions", action="store_true", help="count instructions, with valgrind, in place of seconds")
+    parser.add_argument(
+        "--instructions", action="store_true", help="count instructions, with valgrind, in place of seconds"
+    )
     parser.add_argument("--list", action="store_true", help="the names of the rows")
     options = parser.parse_intermixed_args(words)
     if options.list:

@@ -103,7 +103,9 @@ def used(program, *words, environment=None):
     """What a run of a program used of the machine, as `os.wait4` has it, with this environment in place of our own."""
     command = [program, *map(str, words)]
     with tempfile.TemporaryDirectory() as folder:
-        running = subprocess.Popen(command, cwd=folder, env=environment, stdout=subprocess.DEVNULL, stderr=subprocess.PIPE)
+        running = subprocess.Popen(
+            command, cwd=folder, env=environment, stdout=subprocess.DEVNULL, stderr=subprocess.PIPE
+        )
         said = running.stderr.read()
         _, ended, usage = os.wait4(running.pid, 0)
         running.returncode = os.waitstatus_to_exitcode(ended)
@@ -124,7 +126,9 @@ def instructions_of(program, *words):
     """The instructions of a run."""
     with tempfile.TemporaryDirectory() as folder:
         counter = ["valgrind", "--tool=callgrind", "--callgrind-out-file=counts"]
-        ran = subprocess.run([*counter, program, *map(str, words)], cwd=folder, capture_output=True, text=True, check=False)
+        ran = subprocess.run(
+            [*counter, program, *map(str, words)], cwd=folder, capture_output=True, text=True, check=False
+        )
     counted = re.search(r"Collected : (\d+)", ran.stderr)
     if ran.returncode or not counted:
         told = " ".join(map(str, words))
@@ -177,7 +181,9 @@ def newer(program, log):
 def versions(options, log):
     """The medians of our seconds in version 2, and of their ratio to those in version 1, of so many runs in turn."""
     later = newer(options.program, log)
-    ours, earlier = zip(*[(seconds(options.program, later), seconds(options.program, log)) for _ in range(options.runs)])
+    ours, earlier = zip(
+        *[(seconds(options.program, later), seconds(options.program, log)) for _ in range(options.runs)]
+    )
     return [statistics.median(ours), ratio(ours, earlier)]
 
 
@@ -228,7 +234,12 @@ def growth(options, name):
     costs = [cost(options, log) for log in logs]
     lines, slow = [], False
     for place, (size, log, taken) in enumerate(zip(sizes, logs, costs)):
-        told = [name, str(size), f"{log.size / 1e6:.2f}", f"{taken / 1e6:.1f} M" if options.instructions else f"{taken:.3f} s"]
+        told = [
+            name,
+            str(size),
+            f"{log.size / 1e6:.2f}",
+            f"{taken / 1e6:.1f} M" if options.instructions else f"{taken:.3f} s",
+        ]
         if place:
             before, least = logs[place - 1], costs[place - 1]
             bytes_more = log.size / before.size
@@ -254,13 +265,17 @@ def parser_of_words():
     parser.add_argument("program", metavar="PROGRAM", nargs="?", help="the built program")
     parser.add_argument("names", metavar="NAME", nargs="*", help="which logs (all)")
     parser.add_argument("--beside", metavar="OTHER", help="another program, which is run in turn with it")
-    parser.add_argument("--without", metavar="NAME", help="run the other program without this variable of the environment too")
+    parser.add_argument(
+        "--without", metavar="NAME", help="run the other program without this variable of the environment too"
+    )
     parser.add_argument("--runs", type=int, default=15, help="how many runs of each (15)")
     parser.add_argument("--logs", type=pathlib.Path, default=pathlib.Path("logs"), help="the folder of the logs (logs)")
     parser.add_argument("--version2", action="store_true", help="replay each log in version 2 too")
     parser.add_argument("--instructions", action="store_true", help="count instructions too, with valgrind")
     parser.add_argument("--growth", action="store_true", help="how each kind grows with its bytes")
-    parser.add_argument("--slack", type=float, default=1.15, help="how many times more than allowed still passes (1.15)")
+    parser.add_argument(
+        "--slack", type=float, default=1.15, help="how many times more than allowed still passes (1.15)"
+    )
     parser.add_argument("--list", action="store_true", help="the names of the logs and kinds")
     return parser
 

@@ -43,10 +43,15 @@ class Config:
         leaders = self.leaders or tuple(range(self.validators))
         threshold = (self.validators - 1) // 3 if self.threshold < 0 else self.threshold
         words = [
-            big_endian(1, 1), big_endian(self.validators, 4), *(big_endian(weight, 8) for weight in weights),
-            big_endian(threshold, 8), bytes([3, EXPONENT, 20, 0]),
-            big_endian(len(leaders), 4), *(big_endian(leader, 4) for leader in leaders),
-            big_endian(self.records, 4), big_endian(self.parked, 4),
+            big_endian(1, 1),
+            big_endian(self.validators, 4),
+            *(big_endian(weight, 8) for weight in weights),
+            big_endian(threshold, 8),
+            bytes([3, EXPONENT, 20, 0]),
+            big_endian(len(leaders), 4),
+            *(big_endian(leader, 4) for leader in leaders),
+            big_endian(self.records, 4),
+            big_endian(self.parked, 4),
         ]
         return b"".join(words)
 
@@ -184,7 +189,12 @@ class Rounds:
             panorama = list(marks if marks and creator % 2 else self.latest)
             if self.options.late and leader is not None:
                 self.delay(panorama, creator, leader)
-            made.append((creator, self.spell.unit(creator, self.sequence[creator], start + creator, panorama, None, self.endorsed)))
+            made.append(
+                (
+                    creator,
+                    self.spell.unit(creator, self.sequence[creator], start + creator, panorama, None, self.endorsed),
+                )
+            )
         for creator, unit in made:
             self.settle(creator, unit)
         return made
@@ -301,7 +311,9 @@ def missing(options):
     vertices = []
     for place in range(options.units):
         panorama = [names.randbytes(32) for _ in range(options.validators)]
-        vertices.append(of_unit(spell.unit(place % options.validators, 1, options.validators * ROUND + place, panorama)))
+        vertices.append(
+            of_unit(spell.unit(place % options.validators, 1, options.validators * ROUND + place, panorama))
+        )
     return config, vertices
 
 
@@ -353,7 +365,9 @@ def swing(options):
     return config, vertices
 
 
-KINDS = {kind.__name__: kind for kind in (rounds, lane, solo, fan, needs, missing, endorsements, equivocations, stale, swing)}
+KINDS = {
+    kind.__name__: kind for kind in (rounds, lane, solo, fan, needs, missing, endorsements, equivocations, stale, swing)
+}
 IN_ROUNDS = {"rounds", "stale", "swing"}
 IN_ANY_ORDER = {"rounds", "lane", "solo"}
 
@@ -378,13 +392,17 @@ def add_options(parser, kind):
     """The options of the kind."""
     parser.add_argument("log", metavar="LOG", help="the file that is written")
     parser.add_argument("--validators", type=natural, default=10, help="how many validators, at most 1,024 (10)")
-    parser.add_argument("--seed", type=natural, default=1 if kind == "rounds" else 5, help="what the random words begin with")
+    parser.add_argument(
+        "--seed", type=natural, default=1 if kind == "rounds" else 5, help="what the random words begin with"
+    )
     if kind in IN_ROUNDS:
         parser.add_argument("--rounds", type=natural, default=100, help="how many rounds (100)")
     else:
         parser.add_argument("--units", type=natural, default=1000, help="how many units or endorsements (1,000)")
     if kind in IN_ANY_ORDER:
-        parser.add_argument("--order", choices=("made", "reversed", "shuffled"), default="made", help="how they come (made)")
+        parser.add_argument(
+            "--order", choices=("made", "reversed", "shuffled"), default="made", help="how they come (made)"
+        )
     if kind == "rounds":
         told = {
             "--silent": "so many at the end make nothing after the first round",

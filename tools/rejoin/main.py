@@ -22,7 +22,6 @@ import re
 import shutil
 import socket
 import subprocess
-import sys
 import tempfile
 import time
 from dataclasses import dataclass, field
@@ -41,6 +40,7 @@ class Problem(Exception):
 
 
 # ---- zeros, and headers that aren't whole
+
 
 def has_cut_header(data):
     """Whether these bytes are the beginning of a header and no more, or none at all."""
@@ -67,7 +67,7 @@ def whole_size(path):
         if has_cut_header(data) or has_cut_header(data.rstrip(b"\0")):
             return 0
         raise Problem(str(error)) from error
-    rest = data[log.size:]
+    rest = data[log.size :]
     if rest.strip(b"\0") and log.torn is None:
         raise Problem(f"{log.fault}; what is there isn't zeros alone, so nothing is cut")
     if rest and log.entries and ends_in_zeros(log.entries[-1].vertex):
@@ -142,6 +142,7 @@ def mend(path):
 
 
 # ---- meetings
+
 
 @dataclass
 class Rejoin:
@@ -249,12 +250,15 @@ def bring_together(rejoin, keys, settle):
 
 # ---- the verdict
 
+
 def check_signatures(path, keys):
     """It is a Problem where an entry that counts isn't signed by the keys: its bytes aren't what was written."""
     for entry in read_as_far(path).entries:
         if entry.verdict and not is_signed(entry.vertex, keys):
-            raise Problem(f"the entry at {entry.offset} of the own log isn't signed by the keys; it may be damaged. "
-                          "Move the log away: a rejoin makes a new one of what the peers hold")
+            raise Problem(
+                f"the entry at {entry.offset} of the own log isn't signed by the keys; it may be damaged. "
+                "Move the log away: a rejoin makes a new one of what the peers hold"
+            )
 
 
 def verdict(rejoin):
@@ -293,6 +297,7 @@ def join(rejoin, settle):
 
 # ---- the command line
 
+
 def words_of(arguments):
     parser = argparse.ArgumentParser(description=__doc__, formatter_class=argparse.RawDescriptionHelpFormatter)
     commands = parser.add_subparsers(dest="command", required=True)
@@ -302,10 +307,16 @@ def words_of(arguments):
         join_words.add_argument(name, type=lambda text: Path(text).absolute())
     join_words.add_argument("me", type=int, metavar="ME")
     join_words.add_argument("peers", nargs="+", metavar="PEER", help="a peer's log, or the address where it hosts")
-    join_words.add_argument("--settle", type=float, default=12.0, metavar="SECONDS",
-                            help="looks again after so long: what was on its way to a peer is in its log by then")
-    join_words.add_argument("--patience", type=float, default=120.0, metavar="SECONDS",
-                            help="for so long a peer may be starting")
+    join_words.add_argument(
+        "--settle",
+        type=float,
+        default=12.0,
+        metavar="SECONDS",
+        help="looks again after so long: what was on its way to a peer is in its log by then",
+    )
+    join_words.add_argument(
+        "--patience", type=float, default=120.0, metavar="SECONDS", help="for so long a peer may be starting"
+    )
     return parser.parse_args(arguments)
 
 
@@ -315,10 +326,16 @@ def main(arguments=None):
         if words.command == "mend":
             print(mend(words.log))
         else:
-            peers = [peer if ADDRESS.fullmatch(peer) and not Path(peer).exists() else str(Path(peer).absolute())
-                     for peer in words.peers]
-            print(join(Rejoin(words.program, words.config, words.keys, words.log, words.me, peers, words.patience),
-                       words.settle))
+            peers = [
+                peer if ADDRESS.fullmatch(peer) and not Path(peer).exists() else str(Path(peer).absolute())
+                for peer in words.peers
+            ]
+            print(
+                join(
+                    Rejoin(words.program, words.config, words.keys, words.log, words.me, peers, words.patience),
+                    words.settle,
+                )
+            )
     except (Problem, InputError, OSError) as error:
         print(f"{'not mended' if words.command == 'mend' else 'not safe'}: {error}")
         return 1

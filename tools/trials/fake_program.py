@@ -9,7 +9,7 @@ from pathlib import Path
 WAIT = threading.Event()
 # It runs the lines of a command with the words behind it as `words`, and ends with 1 at a command that has no lines.
 # Little is imported, so that it starts fast; a file that is copied is there whole or not at all.
-HEAD = '''#!{python} -SEB
+HEAD = """#!{python} -SEB
 import os, sys, time
 
 words = sys.argv[2:]
@@ -32,7 +32,7 @@ def copy(source, target):
 
 
 exec({commands!r}.get(sys.argv[1], "sys.exit(1)"))
-'''
+"""
 
 
 def fake_program(folder, **commands):

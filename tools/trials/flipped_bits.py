@@ -25,8 +25,12 @@ from lens.log import InputError, is_signed, read_as_far, read_keys, read_log  # 
 
 DATA = Path(__file__).resolve().parents[2] / "crates" / "highway" / "data"
 REFUSED, SAME, SETTINGS, KEYS, NOTHING = (
-    "it isn't replayed", "the same report", "another report, and the settings are others",
-    "another report, and the keys tell", "another report, and nothing tells")
+    "it isn't replayed",
+    "the same report",
+    "another report, and the settings are others",
+    "another report, and the keys tell",
+    "another report, and nothing tells",
+)
 
 
 def report(program, log):

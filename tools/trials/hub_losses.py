@@ -63,7 +63,7 @@ def lose(log, loss):
         return len(entries)
     count = min(int(loss), len(entries))
     if count:
-        log.write_bytes(log.read_bytes()[:entries[-count].offset])
+        log.write_bytes(log.read_bytes()[: entries[-count].offset])
     return count
 
 

@@ -102,6 +102,7 @@ def settle(nodes, seconds):
 
 # ---- what is a fault
 
+
 def units_of(log):
     """The units of a log that count, by creator and number; each has the digests that it has there."""
     found = {}

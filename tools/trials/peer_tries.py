@@ -62,7 +62,13 @@ class Network:
         self.room, self.program, self.nodes, self.restarts = room, program, {}, 0
         room.mkdir()
         members = list(range(validators))
-        settings = {"weights": [1] * validators, "threshold": 0, "levels": 1, "exponents": [exponent, 12], "leaders": members}
+        settings = {
+            "weights": [1] * validators,
+            "threshold": 0,
+            "levels": 1,
+            "exponents": [exponent, 12],
+            "leaders": members,
+        }
         (room / "settings.json").write_text(json.dumps(settings), encoding="ascii")
         lines = [hashlib.sha256(bytes([number])).hexdigest() for number in members]
         (room / "keys").write_text("".join(f"{line}\n" for line in lines), encoding="ascii")
@@ -109,7 +115,7 @@ class Network:
         while not log.exists() and time.monotonic() < ended:
             time.sleep(0.05)
         data = log.read_bytes()
-        return hashlib.sha256(data[9:9 + int.from_bytes(data[5:9])]).digest()
+        return hashlib.sha256(data[9 : 9 + int.from_bytes(data[5:9])]).digest()
 
     def lines(self, name, part):
         """How many lines of a node's output have this part."""
@@ -125,7 +131,9 @@ class Network:
         """How many blocks are final by the log of validator 0; a log may be torn, since its node was killed."""
         whole = self.room / "whole.log"
         subprocess.run([self.program, "mend", self.room / "v0" / "node.log", whole], check=True, capture_output=True)
-        said = subprocess.run([self.program, "replay", whole], cwd=self.room, check=True, capture_output=True, text=True)
+        said = subprocess.run(
+            [self.program, "replay", whole], cwd=self.room, check=True, capture_output=True, text=True
+        )
         return sum(line.startswith("final ") for line in said.stdout.splitlines())
 
 
@@ -140,6 +148,7 @@ def await_listener(port):
 
 
 # ---- who misbehaves
+
 
 def each_second(port, ended):
     """Connects each second and says nothing."""
@@ -160,7 +169,7 @@ def trickle(stream, ended, begin):
     """Sends these bytes and then zeros, a byte each second."""
     stream.settimeout(1)
     for place in range(1 << 20):
-        stream.sendall(begin[place:place + 1] or b"\0")
+        stream.sendall(begin[place : place + 1] or b"\0")
         if ended.wait(1):
             return
 
@@ -186,8 +195,11 @@ class BadPeer:
         self.door, self.ended, self.dials = socket.create_server(("127.0.0.1", 0), backlog=64), ended, 0
         self.address = f"127.0.0.1:{self.door.getsockname()[1]}"
         self.hello = (33).to_bytes(4) + HELLO_KIND + instance
-        self.treat = {"silent-peer": hold, "slow-peer": read_slowly,
-                      "trickling-peer": lambda stream, ended, _: trickle(stream, ended, LONG_FRAME)}[kind]
+        self.treat = {
+            "silent-peer": hold,
+            "slow-peer": read_slowly,
+            "trickling-peer": lambda stream, ended, _: trickle(stream, ended, LONG_FRAME),
+        }[kind]
         threading.Thread(target=self.listen, daemon=True).start()
 
     def listen(self):
@@ -202,6 +214,7 @@ class BadPeer:
 
 
 # ---- strangers, who come again as soon as they are let go
+
 
 class Stranger:
     """Who comes to a hub from an address, treats it in this way, and comes again; it counts how often it came."""
@@ -234,7 +247,7 @@ def is_let_go(stream, seconds):
 def send_slowly(stream, ended):
     """Sends a byte of a long frame each second, until it is let go."""
     for place in range(1 << 20):
-        stream.sendall(LONG_FRAME[place:place + 1] or b"\0")
+        stream.sendall(LONG_FRAME[place : place + 1] or b"\0")
         if is_let_go(stream, 1) or ended.is_set():
             return
 
@@ -268,6 +281,7 @@ def strangers_at(kind, network, ended):
 
 
 # ---- what is tried
+
 
 def run_all(networks, seconds):
     """Lets all networks run for so long at the same time."""
@@ -305,8 +319,10 @@ def tried_connections(words, room, ended):
         ended.set()
         for network in networks:
             network.stop()
-    print(f"sessions at the hub: {', '.join(str(network.lines('hub', 'session ')) for network in networks)} that failed; "
-          f"it was started again {networks[0].restarts} times alone, and {networks[1].restarts}")
+    print(
+        f"sessions at the hub: {', '.join(str(network.lines('hub', 'session ')) for network in networks)} that failed; "
+        f"it was started again {networks[0].restarts} times alone, and {networks[1].restarts}"
+    )
     if strangers:
         print(f"strangers came {sum(stranger.visits for stranger in strangers)} times")
     return "final blocks", [network.finals() for network in networks], limit_of(words.kind)

@@ -35,7 +35,13 @@ class Run:
             for file in files:
                 shutil.copy(DATA / file, room)
             said = {"LD_PRELOAD": str(library), "REFUSE": str(refused), "COUNT_FILE": str(room / "count")}
-            running = subprocess.Popen([program, *words], cwd=room, env={**os.environ, **said}, stdout=subprocess.PIPE, stderr=subprocess.DEVNULL)
+            running = subprocess.Popen(
+                [program, *words],
+                cwd=room,
+                env={**os.environ, **said},
+                stdout=subprocess.PIPE,
+                stderr=subprocess.DEVNULL,
+            )
             speaks = threading.Thread(target=peer) if peer else None
             if speaks:
                 speaks.start()
@@ -44,7 +50,13 @@ class Run:
                 speaks.join()
             self.status = running.returncode
             self.requests = int((room / "count").read_text(encoding="ascii"))
-            self.replays = not (room / "node.log").exists() or subprocess.run([program, "replay", "node.log"], cwd=room, capture_output=True, check=False).returncode == 0
+            self.replays = (
+                not (room / "node.log").exists()
+                or subprocess.run(
+                    [program, "replay", "node.log"], cwd=room, capture_output=True, check=False
+                ).returncode
+                == 0
+            )
 
     def as_told(self):
         """Its status, and the last line that it wrote."""
@@ -122,7 +134,9 @@ def main(words=None):
     program, compiler = str(pathlib.Path(asked.program).resolve()), asked.compiler
     with tempfile.TemporaryDirectory(prefix="highway-") as room:
         library = pathlib.Path(room) / "refuse_memory.so"
-        subprocess.run([compiler, "-O1", "-shared", "-fPIC", "-o", library, HERE / "refuse_memory.c", "-ldl"], check=True)
+        subprocess.run(
+            [compiler, "-O1", "-shared", "-fPIC", "-o", library, HERE / "refuse_memory.c", "-ldl"], check=True
+        )
         node = ["settings.json", "keys", "node.log"]
         met = ["three.json", "three.keys", "node.log"]
         works = [

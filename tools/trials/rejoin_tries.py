@@ -61,8 +61,19 @@ class Network:
     def rejoin(self, settle):
         """Rejoins validator 0 with all others, and answers whether that said it is safe."""
         peers = sorted(str(path) for path in self.folder.glob("*.log") if path.name != "v0.log")
-        line = [sys.executable, TOOLS / "rejoin.py", "join", self.program, self.folder / NODE[0], self.folder / NODE[1],
-                self.log("v0"), "0", *peers, "--settle", str(settle)]
+        line = [
+            sys.executable,
+            TOOLS / "rejoin.py",
+            "join",
+            self.program,
+            self.folder / NODE[0],
+            self.folder / NODE[1],
+            self.log("v0"),
+            "0",
+            *peers,
+            "--settle",
+            str(settle),
+        ]
         done = subprocess.run(list(map(str, line)), capture_output=True, text=True)
         if done.returncode:
             print(done.stdout + done.stderr, end="", flush=True)

@@ -120,6 +120,7 @@ def told(name, order):
 
 # ---- the nodes
 
+
 class Traced:
     """A node below strace, in a folder of its own; `begins` is the log that it begins with, if it has one."""
 
@@ -131,10 +132,25 @@ class Traced:
         self.trace, self.log = self.folder / "trace", self.folder / "node.log"
         if begins:
             shutil.copy(begins, self.log)
-        line = ["strace", "-f", "-y", "-s", "0", "-e", f"trace={CALLS}", "-o", self.trace,
-                program, command, *NODE, "node.log", *words]
-        self.running = subprocess.Popen(list(map(str, line)), cwd=self.folder, stdout=subprocess.DEVNULL,
-                                        stderr=subprocess.DEVNULL)
+        line = [
+            "strace",
+            "-f",
+            "-y",
+            "-s",
+            "0",
+            "-e",
+            f"trace={CALLS}",
+            "-o",
+            self.trace,
+            program,
+            command,
+            *NODE,
+            "node.log",
+            *words,
+        ]
+        self.running = subprocess.Popen(
+            list(map(str, line)), cwd=self.folder, stdout=subprocess.DEVNULL, stderr=subprocess.DEVNULL
+        )
 
     def order(self):
         """What is in its trace, once it has ended."""

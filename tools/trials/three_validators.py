@@ -47,8 +47,13 @@ class Node:
         """Starts it, or starts it again from its log."""
         (self.folder / "highway.blocks").unlink(missing_ok=True)
         with open(self.folder / "out", "a", encoding="utf-8") as out:
-            self.running = subprocess.Popen([*self.program, *self.words], cwd=self.folder, env=self.environment,
-                                            stdout=out, stderr=subprocess.DEVNULL)
+            self.running = subprocess.Popen(
+                [*self.program, *self.words],
+                cwd=self.folder,
+                env=self.environment,
+                stdout=out,
+                stderr=subprocess.DEVNULL,
+            )
         self.starts += 1
 
     def watch(self):
@@ -87,8 +92,10 @@ def said_of(node):
     lines = said.splitlines() or ["no report"]
     finals = [it for it in lines if it.startswith("final ")]
     faulty = next((it for it in lines if it.startswith("faulty")), "faulty ?")
-    print(f"{node.name}: started {node.starts} times, log mended {node.mended} times; "
-          f"{lines[0]}; {faulty}; {len(finals)} final blocks")
+    print(
+        f"{node.name}: started {node.starts} times, log mended {node.mended} times; "
+        f"{lines[0]}; {faulty}; {len(finals)} final blocks"
+    )
     return status == 0 and faulty == "faulty -" and bool(finals)
 
 
@@ -96,7 +103,7 @@ def agree(nodes):
     """Whether each log has final blocks, nobody is faulty in any, and each two agree, which it prints too."""
     is_well = all([said_of(node) for node in nodes])
     for number, left in enumerate(nodes):
-        for right in nodes[number + 1:]:
+        for right in nodes[number + 1 :]:
             said, status = left.call("audit", left.log, str(right.folder / right.log))
             print(f"{left.name} {right.name}: {said.strip()}")
             is_well = is_well and status == 0

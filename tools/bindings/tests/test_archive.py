@@ -11,7 +11,7 @@ from unittest import mock
 from bindings import archive
 
 # A toolchain's module about crates: hw_c depends on low, in the folder that it is given.
-MODULE = '''
+MODULE = """
 import os
 KIT = os.path.dirname(os.path.dirname(os.path.abspath(__file__)))
 RATTLE = f"{KIT}/bin/rattle"
@@ -35,7 +35,7 @@ class Crate:
 def crates_below(root):
     low = Crate("low", root)
     return [low, Crate("hw_c", root, [low])]
-'''
+"""
 # What the toolchain's programs do: they note how they were called.
 NOTES = """#!{sh}
 [ "$1" = doc ] && echo "{work}/kit/page.md" && exit

@@ -37,7 +37,7 @@ class Steps(unittest.TestCase):
         self.tool("python3", PYTHON)
         self.tool("cargo", CARGO)
         self.tool("cc", CC % shutil.which("sh"))
-        self.tool("valgrind", 'for it; do last=$it; done\nexit ${VALGRIND:-0}\n')
+        self.tool("valgrind", "for it; do last=$it; done\nexit ${VALGRIND:-0}\n")
 
     def tool(self, name, text):
         with open(f"{self.work}/bin/{name}", "w", encoding="utf-8") as it:
@@ -49,16 +49,26 @@ class Steps(unittest.TestCase):
         for name in without:
             os.remove(f"{self.work}/bin/{name}")
         how = {"env": {"PATH": f"{self.work}/bin", **said}, "cwd": self.work, "timeout": 20}
-        ran = subprocess.run([f"{self.work}/bin/bash", "tools/bindings/check.sh"], capture_output=True, text=True, **how)
+        ran = subprocess.run(
+            [f"{self.work}/bin/bash", "tools/bindings/check.sh"], capture_output=True, text=True, **how
+        )
         lines = [it[len("bindings: ") :] for it in ran.stdout.splitlines() if it.startswith("bindings: ")]
         return ran.returncode, lines, ran.stdout + ran.stderr
 
     def test_with_all_tools_all_is_done(self):
         status, lines, said = self.ran()
-        self.assertEqual(lines, [
-            "the archive", "the tests of the crate", "its examples", "the program in C", "a million deliveries",
-            "no leak, no bad access", "the numbers in all texts",
-        ])
+        self.assertEqual(
+            lines,
+            [
+                "the archive",
+                "the tests of the crate",
+                "its examples",
+                "the program in C",
+                "a million deliveries",
+                "no leak, no bad access",
+                "the numbers in all texts",
+            ],
+        )
         self.assertEqual(status, 0, said)
 
     def test_another_folder_of_the_archive_is_not_tested(self):

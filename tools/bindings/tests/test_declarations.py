@@ -1,6 +1,5 @@
 """Tests of the comparison of the declarations with the crate: each text with one thing changed is told of."""
 
-import os
 import unittest
 
 from bindings import declarations as numbers

@@ -24,7 +24,15 @@ def sent(it):
 
 
 CONFIG = SimpleNamespace(
-    weights=[3, 4], ftt=1, levels=2, min_exponent=4, max_exponent=8, leaders=("table", [0, 1]), max_records=9, max_parked=8, end=3
+    weights=[3, 4],
+    ftt=1,
+    levels=2,
+    min_exponent=4,
+    max_exponent=8,
+    leaders=("table", [0, 1]),
+    max_records=9,
+    max_parked=8,
+    end=3,
 )
 
 
@@ -131,7 +139,9 @@ class Cases(unittest.TestCase):
             self.assertIn("  pub case2 : RandomCase2\n", (crate / "specs/RandomCases1.antt").read_text())
             proofs = (crate / "proofs/RandomCases.antt").read_text()
             self.assertIn("random_case_3 : RandomCase3\nunfolding unfold_all unfold_decisions\n", proofs)
-            self.assertIn("pub random_cases_2 : RandomCases2\nrandom_cases_2 = record { case3 = random_case_3 }", proofs)
+            self.assertIn(
+                "pub random_cases_2 : RandomCases2\nrandom_cases_2 = record { case3 = random_case_3 }", proofs
+            )
 
 
 if __name__ == "__main__":

@@ -73,9 +73,10 @@ class Meters(unittest.TestCase):
 class Tables(unittest.TestCase):
     def test_the_dearest_comes_first_and_all_is_summed(self):
         rows = table({("low", "proof"): 10.0, ("top", "edits"): 30.0, ("top", "proof"): 5.0, (OTHERS, "runs"): 99.0})
-        self.assertEqual([it.split() for it in rows[1:]], [
-            ["top", "5", "30", "35"], ["low", "10", "10"], [*OTHERS.split(), "99"], ["all", "15", "30", "144"],
-        ])
+        self.assertEqual(
+            [it.split() for it in rows[1:]],
+            [["top", "5", "30", "35"], ["low", "10", "10"], [*OTHERS.split(), "99"], ["all", "15", "30", "144"]],
+        )
 
 
 if __name__ == "__main__":

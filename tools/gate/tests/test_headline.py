@@ -84,11 +84,15 @@ class Headline(unittest.TestCase):
 
     def names(self):
         found = headline.definitions_of(self.root)
-        return [full for _, names in headline.by_files(found, headline.closure(found, headline.ROOTS)[0]) for full in names]
+        return [
+            full for _, names in headline.by_files(found, headline.closure(found, headline.ROOTS)[0]) for full in names
+        ]
 
     def test_what_is_named_and_nothing_else(self):
         low, high = "hw_low.Low.", "hw_high.High."
-        self.assertEqual(self.names(), [low + "Node", low + "Request", low + ">>=", low + "beside", high + "IsSo", high + "said"])
+        self.assertEqual(
+            self.names(), [low + "Node", low + "Request", low + ">>=", low + "beside", high + "IsSo", high + "said"]
+        )
 
     def test_lines_of_other_commands_are_left_out(self):
         with mock.patch.object(headline, "ONLY", {"hw_high.High.said": r"\(Replay "}):
@@ -113,7 +117,9 @@ class Headline(unittest.TestCase):
     def test_a_page_that_is_old(self):
         self.ran()
         self.assertEqual(self.ran("--check")[0], 0)
-        self.put("crates/hw_low/specs/Low.antt", "-- Units.\n" + (self.root / "crates/hw_low/specs/Low.antt").read_text())
+        self.put(
+            "crates/hw_low/specs/Low.antt", "-- Units.\n" + (self.root / "crates/hw_low/specs/Low.antt").read_text()
+        )
         status, said = self.ran("--check")
         self.assertEqual(status, 1)
         self.assertIn("isn't what the definitions say", said)

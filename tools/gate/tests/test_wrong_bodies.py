@@ -92,7 +92,6 @@ fn odd(n: u64) -> bool {
 """
 
 
-
 def page_text(mistake, old, new):
     return f"# {mistake}\nfile: src/lib.rt\nold: {old}\nnew: {new}\n"
 

@@ -63,9 +63,12 @@ class BadInput(Commands):
         keys, log = DATA / "three.keys", LOGS[0]
         for command in (("entries",), ("unit", "41"), ("evidence",), ("verify", keys)):
             for path, text in (
-                    (self.room, "is a directory"), (self.room / "x", "no such file or directory"),
-                    (keys, "bad magic"), (self.file(b"HWLG\x09"), "version 9"),
-                    (self.file(b"HWLG\x01", "b.hwlg"), "torn at 5")):
+                (self.room, "is a directory"),
+                (self.room / "x", "no such file or directory"),
+                (keys, "bad magic"),
+                (self.file(b"HWLG\x09"), "version 9"),
+                (self.file(b"HWLG\x01", "b.hwlg"), "torn at 5"),
+            ):
                 self.assertIn(f"input {path}: {text}", self.refused(command[0], path, *command[1:]))
         self.assertIn("keys at 0", self.refused("verify", log, log))
         self.assertIn("keys at 65", self.refused("verify", log, self.file(keys.read_bytes()[:65], "one.keys")))
@@ -125,7 +128,7 @@ class Shown(Commands):
 
     def test_a_fault_behind_good_entries(self):
         data, at = self.example().read_bytes(), read_log(self.example()).entries[5].offset
-        status, said, told = self.lens("entries", self.file(data[:at] + b"\x07" + data[at + 1:]))
+        status, said, told = self.lens("entries", self.file(data[:at] + b"\x07" + data[at + 1 :]))
         self.assertEqual((status, said.count("admitted 1")), (2, 5))
         self.assertIn(f"bad event at {at}", told)
 
@@ -145,9 +148,10 @@ class Shown(Commands):
     def test_a_unit(self):
         world = running_example()
         for name, words in {
-                "a1": ("endorsed   ", "  faulty", "cited by   -", "votes for  1#2"),
-                "b2": ("endorsers  1, 2, weight 9 of 14: endorsed since entry 12", "a block of height 1"),
-                "a0": ("final      height 0 at level 2, quorum 9", "committee 1 (weight 4) from 0,1,2, 2")}.items():
+            "a1": ("endorsed   ", "  faulty", "cited by   -", "votes for  1#2"),
+            "b2": ("endorsers  1, 2, weight 9 of 14: endorsed since entry 12", "a block of height 1"),
+            "a0": ("final      height 0 at level 2, quorum 9", "committee 1 (weight 4) from 0,1,2, 2"),
+        }.items():
             status, said, _ = self.lens("unit", self.example(), world.units[name].unit.digest.hex()[:12])
             self.assertEqual(status, 0)
             for word in words:
@@ -174,9 +178,13 @@ class Shown(Commands):
         status, said, _ = self.lens("why", DATA / "four.hwlg", DATA / "other.hwlg")
         self.assertEqual(status, 0)
         for word in (
-                "0  41f3cb4d  20baa259  here they part", "In both committees: 1 (weight 1, a culprit)",
-                "of weight 1, which is above the threshold 0", "left has it in entry 2", "right has it in entry 2",
-                "run `verify` on both logs"):
+            "0  41f3cb4d  20baa259  here they part",
+            "In both committees: 1 (weight 1, a culprit)",
+            "of weight 1, which is above the threshold 0",
+            "left has it in entry 2",
+            "right has it in entry 2",
+            "run `verify` on both logs",
+        ):
             self.assertIn(word, said)
         status, said, _ = self.lens("why", DATA / "four.hwlg", DATA / "both.hwlg")
         self.assertEqual((status, said), (0, "No conflict: the two logs agree on 1 final block.\n"))
@@ -192,7 +200,7 @@ class Shown(Commands):
         for place in range(1, len(log.entries) + 1):
             file = log_file(path, log, place)
             report = program.replay(file)
-            status, said, _ = self.lens("entries", self.file(path.read_bytes()[:file.size], "part.hwlg"))
+            status, said, _ = self.lens("entries", self.file(path.read_bytes()[: file.size], "part.hwlg"))
             self.assertEqual((status, said.splitlines()[-3:]), (0, report.lines))
 
 

@@ -4,7 +4,17 @@ from dataclasses import replace
 
 from lens.example import EXAMPLE_ORDER, World, make_config, running_example
 from lens.graph import (
-    DROPPED, PARKED, SETTLED, Leaders, Reading, chacha_words, chain_of, direct_citations, is_below, witness_time)
+    DROPPED,
+    PARKED,
+    SETTLED,
+    Leaders,
+    Reading,
+    chacha_words,
+    chain_of,
+    direct_citations,
+    is_below,
+    witness_time,
+)
 from lens.log import FAULTY, Entry, with_digest
 
 
@@ -85,15 +95,25 @@ class Rules(unittest.TestCase):
     """The units that the document gives for each rule."""
 
     LOCAL = (
-        (2, "by 4 at 58 cites a0 b2 c1 d0"), (3, "by 1 at 58 cites a0 b2 c1"), (4, "by 3 at 58 cites a0 - - !"),
-        (5, "by 1 at 58 number 0 cites a0 b2 c1 d0"), (6, "by 1 at 58 exp 3 cites a0 b2 c1 d0"),
-        (8, "by 1 at 58 cites - - - -"))
+        (2, "by 4 at 58 cites a0 b2 c1 d0"),
+        (3, "by 1 at 58 cites a0 b2 c1"),
+        (4, "by 3 at 58 cites a0 - - !"),
+        (5, "by 1 at 58 number 0 cites a0 b2 c1 d0"),
+        (6, "by 1 at 58 exp 3 cites a0 b2 c1 d0"),
+        (8, "by 1 at 58 cites - - - -"),
+    )
     STATE = (
-        (9, "by 1 at 58 number 3 cites b2 b2 c1 d0"), (10, "by 1 at 58 number 4 cites a0 b2 c1 d0"),
-        (11, "by 1 at 58 cites a0 b2 c0 d0"), (12, "by 1 at 31 cites a0 b2 c1 d0"),
-        (13, "by 1 at 58 exp 5 cites a0 b2 c1 d0"), (14, "by 1 at 30 cites a0 b1 c1 -"),
-        (15, "by 1 at 64 cites a0 b2 c1 d0 block w"), (16, "by 0 at 64 cites a1 b2 c2 !"),
-        (17, "by 2 at 64 cites a0 b1 c3 f0 endorsed b2"), (18, "by 0 at 58 cites a0 b2 c2 !"))
+        (9, "by 1 at 58 number 3 cites b2 b2 c1 d0"),
+        (10, "by 1 at 58 number 4 cites a0 b2 c1 d0"),
+        (11, "by 1 at 58 cites a0 b2 c0 d0"),
+        (12, "by 1 at 31 cites a0 b2 c1 d0"),
+        (13, "by 1 at 58 exp 5 cites a0 b2 c1 d0"),
+        (14, "by 1 at 30 cites a0 b1 c1 -"),
+        (15, "by 1 at 64 cites a0 b2 c1 d0 block w"),
+        (16, "by 0 at 64 cites a1 b2 c2 !"),
+        (17, "by 2 at 64 cites a0 b1 c3 f0 endorsed b2"),
+        (18, "by 0 at 58 cites a0 b2 c2 !"),
+    )
 
     def test_local_rules(self):
         for rule, line in self.LOCAL:

@@ -5,9 +5,28 @@ import unittest
 
 from lens.example import EXAMPLE_ORDER, make_config, running_example, sample_keys
 from lens.log import (
-    CodecError, Cursor, InputError, Lasts, LogReader, SignedUnit, Unit, config_fault, is_signed, read_as_far,
-    read_config, read_full, read_head, read_keys, read_log, read_unit, spelled_config, spelled_log, spelled_unit,
-    spelled_vertex, with_digest)
+    CodecError,
+    Cursor,
+    InputError,
+    Lasts,
+    LogReader,
+    SignedUnit,
+    Unit,
+    config_fault,
+    is_signed,
+    read_as_far,
+    read_config,
+    read_full,
+    read_head,
+    read_keys,
+    read_log,
+    read_unit,
+    spelled_config,
+    spelled_log,
+    spelled_unit,
+    spelled_vertex,
+    with_digest,
+)
 
 DATA = pathlib.Path(__file__).resolve().parents[3] / "crates" / "highway" / "data"
 
@@ -79,7 +98,8 @@ class Documented(unittest.TestCase):
     def test_the_configuration(self):
         said = bytes.fromhex(
             "01 00000003 0000000000000001 0000000000000001 0000000000000001 0000000000000000 01 04 08"
-            "00 00000003 00000000 00000000 00000002 00020000 00001000")
+            "00 00000003 00000000 00000000 00000002 00020000 00001000"
+        )
         config = read_config(said)
         self.assertEqual((config.weights, config.threshold, config.levels), ((1, 1, 1), 0, 1))
         self.assertEqual((config.leaders, config.end), ((0, 0, 2), None))
@@ -133,7 +153,7 @@ class Faults(Files):
 
     def patched(self, at, data, version=1):
         said = self.said[version]
-        return said[:at] + data + said[at + len(data):]
+        return said[:at] + data + said[at + len(data) :]
 
     def test_heads(self):
         said = self.said[1]
@@ -142,7 +162,7 @@ class Faults(Files):
         self.assertEqual(self.refused_head(b"HWCT" + said[4:]), ("bad magic", 0))
         self.assertEqual(self.refused_head(b"HWLG"), ("torn at 4", 4))
         self.assertEqual(self.refused_head(said[:8]), ("torn at 5", 5))
-        self.assertEqual(self.refused_head(said[:self.head - 1]), ("torn at 9", 9))
+        self.assertEqual(self.refused_head(said[: self.head - 1]), ("torn at 9", 9))
         self.assertEqual(self.refused_head(self.patched(4, b"\x03")), ("version 3", 4))
         self.assertEqual(self.refused_head(self.patched(5, b"\xff")), ("too long at 5", 5))
         self.assertEqual(self.refused_head(self.patched(9, b"\x07")), ("config bad tag at 0", 9))
@@ -176,7 +196,7 @@ class Faults(Files):
         for said in self.said.values():
             reader, entries = LogReader(), []
             for at in range(len(said)):
-                reader.feed(said[at:at + 1])
+                reader.feed(said[at : at + 1])
                 entries += reader.entries()
             self.assertEqual(entries, read_log(self.file(said)).entries)
 
@@ -196,13 +216,13 @@ class Faults(Files):
         said = lasts.spelled(self.world.units["b1"])
         self.assertEqual(lasts.read(said), self.world.units["b1"])
         slot = 26
-        self.assertEqual(said[slot:slot + 4], (2).to_bytes(4))
+        self.assertEqual(said[slot : slot + 4], (2).to_bytes(4))
         for wrong in (1, 4):
             with self.assertRaises(CodecError) as caught:
-                lasts.read(said[:slot] + wrong.to_bytes(4) + said[slot + 4:])
+                lasts.read(said[:slot] + wrong.to_bytes(4) + said[slot + 4 :])
             self.assertEqual(str(caught.exception), f"out of range at {slot}")
         with self.assertRaises(CodecError) as caught:
-            lasts.read(said[:slot + 4] + b"\x00" + said[slot + 5:])
+            lasts.read(said[: slot + 4] + b"\x00" + said[slot + 5 :])
         self.assertEqual(str(caught.exception), f"out of range at {slot + 4}")
 
 

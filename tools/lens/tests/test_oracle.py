@@ -23,7 +23,7 @@ DAMAGES = 3
 def damage(data, chance):
     """The bytes with one of them changed, or without their end."""
     at = chance.randrange(len(data))
-    return data[:at] if chance.random() < 0.2 else data[:at] + bytes([chance.randrange(256)]) + data[at + 1:]
+    return data[:at] if chance.random() < 0.2 else data[:at] + bytes([chance.randrange(256)]) + data[at + 1 :]
 
 
 def unit_of(signed):
@@ -78,6 +78,7 @@ class Oracle(unittest.TestCase):
 
     def test_random_logs(self):
         from gen_logs import log_bytes
+
         logs, entries, faults = 0, 0, collections.Counter()
         for number in range(COUNT):
             chance = random.Random(number)
@@ -93,6 +94,7 @@ class Oracle(unittest.TestCase):
     def compare_faults(self, data):
         """Compares how the reading of these bytes ends, and the entries up to there; answers the fault, or nothing."""
         from hwref.log import LogError, LogReader
+
         self.path.write_bytes(data)
         entries, fault, place = [], "", 0
         try:
@@ -117,6 +119,7 @@ class Oracle(unittest.TestCase):
         """Compares each entry, what became of it, the fork choice and the faulty after it; answers how many."""
         from hwref.incremental import IncrementalCore
         from hwref.log import LogReader
+
         self.path.write_bytes(data)
         log, theirs = read_log(self.path), LogReader(data)
         pairs = [(entry.verdict, entry.vertex) for entry in log.entries]

@@ -15,9 +15,8 @@ from dataclasses import replace
 from lens.main import main
 from lens.example import EXAMPLE_ORDER, World, make_config, running_example
 from lens.graph import read_journal
-from lens.layout import Rounds, block_labels, lay_out
 from lens.log import SignedUnit, read_log, spelled_log, with_digest
-from lens.page import Panel, make_panels, page, panel_data
+from lens.page import make_panels, page, panel_data
 from lens.program import Final, Report, Verdict, has_program
 
 DATA = pathlib.Path(__file__).resolve().parents[3] / "crates" / "highway" / "data"
@@ -86,8 +85,13 @@ class Walks(Room):
 
     def test_what_became_final_and_faulty_when(self):
         news = {place + 1: entry["news"] for place, entry in enumerate(self.data["entries"]) if entry["news"]}
-        self.assertEqual(news, {5: ["validator 3 is faulty from here on"],
-                                9: ["Block 0 became final: level 2, quorum 9, committee 1, 2 from 0/1/2"]})
+        self.assertEqual(
+            news,
+            {
+                5: ["validator 3 is faulty from here on"],
+                9: ["Block 0 became final: level 2, quorum 9, committee 1, 2 from 0/1/2"],
+            },
+        )
         self.assertEqual([entry["finals"] for entry in self.data["entries"]], [0] * 8 + [1] * 5)
         self.assertEqual([entry["faulty"] for entry in self.data["entries"]], [[]] * 4 + [[3]] * 9)
 
@@ -109,7 +113,7 @@ class Walks(Room):
 
     def test_a_page_needs_no_network(self):
         said = page(self.all, self.stand, None)
-        self.assertFalse(re.search(r'(?:src|href)\s*=|url\(|@import|https?://(?!www\.w3\.org/2000/svg)', said))
+        self.assertFalse(re.search(r"(?:src|href)\s*=|url\(|@import|https?://(?!www\.w3\.org/2000/svg)", said))
         self.assertIn("proves nothing", said)
         self.assertEqual(len(data_of(said)[0]["entries"]), 13)
 
@@ -148,11 +152,17 @@ class Conflicts(Room):
     def sides(self):
         """Two logs of three validators; validator 1 has a unit of number 0 in each."""
         world = World(make_config((1, 1, 1), 0, levels=1, leaders=(0, 0, 2)))
-        for line in ("a0 by 0 at 16 cites - - - block x", "b0 by 1 at 17 cites a0 - -",
-                     "c0 by 2 at 32 cites - - - block y", "e0 by 1 at 33 cites - - c0"):
+        for line in (
+            "a0 by 0 at 16 cites - - - block x",
+            "b0 by 1 at 17 cites a0 - -",
+            "c0 by 2 at 32 cites - - - block y",
+            "e0 by 1 at 33 cites - - c0",
+        ):
             world.unit(line)
-        left, right = (self.file(spelled_log(world.config, world.pairs(order)), name)
-                       for order, name in (("a0 b0", "left.hwlg"), ("c0 e0", "right.hwlg")))
+        left, right = (
+            self.file(spelled_log(world.config, world.pairs(order)), name)
+            for order, name in (("a0 b0", "left.hwlg"), ("c0 e0", "right.hwlg"))
+        )
         digest = {name: signed.unit.digest for name, signed in world.units.items()}
         verdict = Verdict("", None, 0, digest["a0"], digest["c0"], [(1, digest["b0"], digest["e0"])], 1, 0)
         return left, right, verdict, digest
@@ -190,8 +200,12 @@ class BadWords(Room):
     def test_bad_input_is_named(self):
         out, four = self.room / "out.html", DATA / "four.hwlg"
         bad = self.file(four.read_bytes()[:20])
-        cases = (((four, four, four, out), "one log, or two"), ((bad, out), "torn at 9"),
-                 ((four, DATA / "ending.hwlg", out), "other config"), ((self.room / "none", out), "no such file"))
+        cases = (
+            ((four, four, four, out), "one log, or two"),
+            ((bad, out), "torn at 9"),
+            ((four, DATA / "ending.hwlg", out), "other config"),
+            ((self.room / "none", out), "no such file"),
+        )
         for words, said in cases:
             status, _, told = self.lens("page", *words)
             self.assertEqual((status, told.count("\n")), (2, 1), told)

@@ -17,8 +17,14 @@ from lens.watch import Follower, Rate, Watch, screen, span_text
 class Spans(unittest.TestCase):
     def test_words(self):
         for span, text in (
-                (None, "-"), (0, "0.0 s"), (9_960, "10.0 s"), (75_000, "1 min 15 s"), (3_700_000, "1 h 1 min"),
-                (200_000_000, "2 d 7 h"), (-1_500, "-1.5 s")):
+            (None, "-"),
+            (0, "0.0 s"),
+            (9_960, "10.0 s"),
+            (75_000, "1 min 15 s"),
+            (3_700_000, "1 h 1 min"),
+            (200_000_000, "2 d 7 h"),
+            (-1_500, "-1.5 s"),
+        ):
             self.assertEqual(span_text(span), text)
 
     def test_rate(self):
@@ -63,7 +69,7 @@ class Growing(unittest.TestCase):
         follower = Follower(self.path)
         follower.follow(0.0)
         other = self.path.with_name("new.log")
-        other.write_bytes(self.said[:self.ends[4]])
+        other.write_bytes(self.said[: self.ends[4]])
         other.rename(self.path)
         follower.follow(1.0)
         self.assertEqual((follower.reader.place, len(follower.reading.order)), (5, 5))
@@ -72,7 +78,7 @@ class Growing(unittest.TestCase):
     def test_states(self):
         watch = Watch(types.SimpleNamespace(log=str(self.path), program=None, now=100, json=False))
         watch.judge.next = 0.0
-        self.path.write_bytes(self.said[:self.ends[7]])
+        self.path.write_bytes(self.said[: self.ends[7]])
         told = watch.state()
         self.assertEqual((told["entries"], told["units"], told["final"]), (8, 8, None))
         self.assertEqual((told["faulty"], told["exceeded"], told["agrees"]), ([3], None, True))

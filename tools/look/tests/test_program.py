@@ -68,8 +68,10 @@ class Repository(unittest.TestCase):
 
         with mock.patch.object(program, "KEPT", f"{self.root}/out/look"), mock.patch.object(program, "build", build):
             with mock.patch.object(program, "place", lambda name: f"{self.root}/out/look/{name}-1"):
-                self.assertEqual([program.unproved("top", Stages("look", io.StringIO())) for _ in "12"],
-                                 [f"{self.root}/out/look/top-1"] * 2)
+                self.assertEqual(
+                    [program.unproved("top", Stages("look", io.StringIO())) for _ in "12"],
+                    [f"{self.root}/out/look/top-1"] * 2,
+                )
             for number in range(program.MOST + 2):
                 self.put(f"out/look/top-{number + 2}", "")
                 os.utime(f"{self.root}/out/look/top-{number + 2}", (number, number))
@@ -112,7 +114,9 @@ class Runs(unittest.TestCase):
 
     def test_the_kit_is_where_rt_doc_says(self):
         told = types.SimpleNamespace(returncode=0, stdout=f"{__file__}\n")
-        with mock.patch.object(kit.shutil, "which", lambda _: "rt"), mock.patch.object(subprocess, "run", lambda *_, **__: told):
+        with mock.patch.object(kit.shutil, "which", lambda _: "rt"), mock.patch.object(
+            subprocess, "run", lambda *_, **__: told
+        ):
             self.assertEqual(kit.folder(), os.path.dirname(os.path.realpath(__file__)))
 
 

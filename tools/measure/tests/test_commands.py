@@ -53,7 +53,9 @@ class Measured(unittest.TestCase):
         good = self.program("good", "exit 0")
         status, out, _ = said_by([*self.words(good, "--beside", good), "explain", "audit", "script", "gen", "sim"])
         self.assertEqual(status, 0)
-        self.assertEqual([line.split()[1] for line in out.splitlines()[2:]], ["explain", "audit", "script", "gen", "sim"])
+        self.assertEqual(
+            [line.split()[1] for line in out.splitlines()[2:]], ["explain", "audit", "script", "gen", "sim"]
+        )
 
     def test_one_program(self):
         status, out, _ = said_by([*self.words(self.program("good", "exit 0")), "gen"])
@@ -80,7 +82,7 @@ class Measured(unittest.TestCase):
         self.assertIn(f"| memory-10 | {FEW} |", out)
 
     def test_a_version_is_made_once(self):
-        log = "echo \"$@\" >>" + str(self.room / "calls") + "; test \"$1\" = replay || : >\"$3\""
+        log = 'echo "$@" >>' + str(self.room / "calls") + '; test "$1" = replay || : >"$3"'
         status, _, _ = said_by([*self.words(self.program("good", log)), "version2-wide"])
         calls = (self.room / "calls").read_text(encoding="utf-8").split("\n")
         self.assertEqual(status, 0)

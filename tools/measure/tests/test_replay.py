@@ -46,7 +46,7 @@ class Measured(unittest.TestCase):
         return [*words, "--runs", "2", "--logs", str(self.room / "logs")]
 
     def test_one_program(self):
-        status, out, _ = said_by(self.words(self.program("good", "test \"$1\" = replay -a -s \"$2\"")))
+        status, out, _ = said_by(self.words(self.program("good", 'test "$1" = replay -a -s "$2"')))
         self.assertEqual(status, 0)
         self.assertRegex(out, r"\A\| log \| MB \| s \|\n\| --- \| --- \| --- \|\n\| small \| 0\.0 \| \d\.\d{3} \|\n\Z")
         self.assertEqual([path.suffix for path in (self.room / "logs").iterdir()], [".hwlg"])
@@ -58,7 +58,7 @@ class Measured(unittest.TestCase):
         self.assertIn("| log | MB | s | other, s | ratio |", out)
 
     def test_both_versions(self):
-        program = self.program("both", "case $1 in migrate) cp \"$2\" \"$3\";; replay) test -s \"$2\";; *) exit 1;; esac")
+        program = self.program("both", 'case $1 in migrate) cp "$2" "$3";; replay) test -s "$2";; *) exit 1;; esac')
         status, out, _ = said_by([*self.words(program, "--version2"), "small"])
         self.assertEqual(status, 0)
         self.assertIn("| log | MB | s | version 2, s | beside version 1 |", out)
@@ -87,8 +87,11 @@ class Measured(unittest.TestCase):
     def test_words_outside_the_grammar(self):
         good = self.program("good", "exit 0")
         for words, says in (
-            ([], "PROGRAM"), ([str(self.room / "none")], "isn't a program"), ([good, "even"], "even isn't one of small"),
-            ([good, "--runs", "0"], "at least 1"), ([good, "--without", "SHADE"], "goes with --beside"),
+            ([], "PROGRAM"),
+            ([str(self.room / "none")], "isn't a program"),
+            ([good, "even"], "even isn't one of small"),
+            ([good, "--runs", "0"], "at least 1"),
+            ([good, "--without", "SHADE"], "goes with --beside"),
         ):
             status, _, err = said_by(words)
             self.assertEqual(status, 2)

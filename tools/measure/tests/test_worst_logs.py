@@ -17,7 +17,7 @@ class Reader:
 
     def take(self, size):
         """The next so many bytes."""
-        piece = self.data[self.place:self.place + size]
+        piece = self.data[self.place : self.place + size]
         assert len(piece) == size, f"torn at {self.place}"
         self.place += size
         return piece
@@ -42,7 +42,7 @@ class Made:
         self.panorama = [self.slot(reader) for _ in range(reader.number(4))]
         self.value = reader.take(reader.number(4)) if reader.number(1) else None
         self.list = [reader.take(32) for _ in range(reader.number(4))]
-        self.name = hashlib.sha256(vertex[1:reader.place]).digest()
+        self.name = hashlib.sha256(vertex[1 : reader.place]).digest()
         reader.take(32)
         assert reader.place == len(vertex)
 
@@ -95,8 +95,12 @@ class Logs(unittest.TestCase):
 
     def test_every_kind_names_its_instance_and_lanes(self):
         words = {
-            "rounds": "--validators 4 --rounds 3", "lane": "--units 5", "solo": "--units 5", "equivocations": "--units 5",
-            "stale": "--validators 6 --rounds 9", "swing": "--validators 6 --rounds 9",
+            "rounds": "--validators 4 --rounds 3",
+            "lane": "--units 5",
+            "solo": "--units 5",
+            "equivocations": "--units 5",
+            "stale": "--validators 6 --rounds 9",
+            "swing": "--validators 6 --rounds 9",
         }
         for kind, options in words.items():
             with self.subTest(kind):

@@ -25,10 +25,20 @@ while True:
         print('made block')
     time.sleep(0.02)
 """
-WELL = {"serve": f"copy({str(DATA / 'signed.hwlg')!r}, words[2]); time.sleep(60)", "run": VALIDATOR,
-        "replay": "print('units 4\\nfaulty -\\nfinal 1')", "audit": "print('agree 1')"}
-STEPS = (Step("right", 0, True), Step("an hour back", -HOUR, False), Step("started again", -HOUR, False, True),
-         Step("right again", 0, True), Step("a day ahead", DAY, True), Step("right after that", 0, False))
+WELL = {
+    "serve": f"copy({str(DATA / 'signed.hwlg')!r}, words[2]); time.sleep(60)",
+    "run": VALIDATOR,
+    "replay": "print('units 4\\nfaulty -\\nfinal 1')",
+    "audit": "print('agree 1')",
+}
+STEPS = (
+    Step("right", 0, True),
+    Step("an hour back", -HOUR, False),
+    Step("started again", -HOUR, False, True),
+    Step("right again", 0, True),
+    Step("a day ahead", DAY, True),
+    Step("right after that", 0, False),
+)
 
 
 class Steps(unittest.TestCase):

@@ -28,8 +28,7 @@ print('units 4 endorsements 0 parked', 3 * is_behind)
 print('faulty -')
 print('final 1\\n' * (1 + starts['v1'] - is_behind), end='')
 """
-WELL = {"serve": NODE, "run": NODE, "mend": "copy(words[0], words[1])", "replay": MISSES,
-        "audit": "print('agree 1')"}
+WELL = {"serve": NODE, "run": NODE, "mend": "copy(words[0], words[1])", "replay": MISSES, "audit": "print('agree 1')"}
 
 
 class InFolder(unittest.TestCase):
@@ -47,8 +46,9 @@ class Losses(InFolder):
         return hub_losses.lose(log, loss), len(read_log(log).entries) if log.exists() else None
 
     def test_the_last_entries(self):
-        self.assertEqual([self.lost(loss) for loss in ("0", "1", "3", "4", "9")],
-                         [(0, 4), (1, 3), (3, 1), (4, 0), (4, 0)])
+        self.assertEqual(
+            [self.lost(loss) for loss in ("0", "1", "3", "4", "9")], [(0, 4), (1, 3), (3, 1), (4, 0), (4, 0)]
+        )
 
     def test_what_is_left_is_whole(self):
         self.lost("2")
@@ -80,8 +80,11 @@ class Parts(InFolder):
 def wait_for_starts(nodes):
     """Waits until each node has written that it was started so often as it was."""
     until = time.monotonic() + 15
-    while any(not (node.folder / "starts").exists()
-              or len((node.folder / "starts").read_text(encoding="ascii").split()) < node.starts for node in nodes):
+    while any(
+        not (node.folder / "starts").exists()
+        or len((node.folder / "starts").read_text(encoding="ascii").split()) < node.starts
+        for node in nodes
+    ):
         if time.monotonic() > until:
             raise TimeoutError("a node didn't start")
         time.sleep(0.02)
@@ -110,8 +113,9 @@ class Tries(InFolder):
 
     def test_what_is_not_well_at_the_end(self):
         after, end = Holds(4, 3, 1), Holds(9, 0, 2)
-        for case, (last, is_well, do_agree) in enumerate((
-                (end, True, True), (Holds(9, 1, 2), False, True), (Holds(9, 0, 1), False, True), (end, False, False))):
+        for case, (last, is_well, do_agree) in enumerate(
+            ((end, True, True), (Holds(9, 1, 2), False, True), (Holds(9, 0, 1), False, True), (end, False, False))
+        ):
             with self.subTest(case=case), mock.patch.object(tempfile, "tempdir", str(self.folder)):
                 found = mock.Mock(return_value=([after, after], [end, last]))
                 with mock.patch.multiple(hub_losses, hurt=found, agree=lambda _, answer=do_agree: answer):

@@ -25,8 +25,13 @@ TORN = f"""if os.path.getsize(words[0]) < {WHOLE}:
     print('input', words[0] + ': torn at 9')
     sys.exit(2)
 """
-WELL = {"serve": NODE, "run": NODE, "mend": f"copy({str(DATA / 'signed.hwlg')!r}, words[1])",
-        "replay": TORN + "print('units 4\\nfaulty -\\nfinal 1')", "audit": "print('agree 1')"}
+WELL = {
+    "serve": NODE,
+    "run": NODE,
+    "mend": f"copy({str(DATA / 'signed.hwlg')!r}, words[1])",
+    "replay": TORN + "print('units 4\\nfaulty -\\nfinal 1')",
+    "audit": "print('agree 1')",
+}
 
 
 def without(log, *places):
@@ -54,12 +59,16 @@ class Faults(unittest.TestCase):
     def test_a_log_that_lacks_its_own_last_unit(self):
         last = self.own(1)[-1]
         number = SIGNED.entries[last].vertex.unit.number
-        self.assertEqual(self.faults(hub=SIGNED, v1=without(SIGNED, last), v0=without(SIGNED, last)),
-                         [f"v1 lacks its unit {number}, which hub has"])
+        self.assertEqual(
+            self.faults(hub=SIGNED, v1=without(SIGNED, last), v0=without(SIGNED, last)),
+            [f"v1 lacks its unit {number}, which hub has"],
+        )
 
     def test_two_units_with_one_number(self):
-        self.assertEqual(self.faults(hub=SIGNED, v2=OTHER), ["validator 1 made two units 0: 779d0c37 ca068358",
-                                                             "validator 1 made two units 1: 1cf659a5 e786fe86"])
+        self.assertEqual(
+            self.faults(hub=SIGNED, v2=OTHER),
+            ["validator 1 made two units 0: 779d0c37 ca068358", "validator 1 made two units 1: 1cf659a5 e786fe86"],
+        )
 
     def test_evidence(self):
         sides = [log.entries[-1].vertex for log in (SIGNED, OTHER)]
@@ -87,8 +96,9 @@ class Told(unittest.TestCase):
         self.assertEqual(self.told(-9, 0, 6, -9), (True, ""))
 
     def test_other_ends_are_counted(self):
-        self.assertEqual(self.told(5, -9, 127, 5),
-                         (False, "v1 ended with status 5, 2 times\nv1 ended with status 127, 1 times\n"))
+        self.assertEqual(
+            self.told(5, -9, 127, 5), (False, "v1 ended with status 5, 2 times\nv1 ended with status 127, 1 times\n")
+        )
 
     def test_a_log_that_is_not_there(self):
         self.assertEqual(self.told(log="none.log"), (False, "v1: no such file or directory\n"))
@@ -103,8 +113,10 @@ class Told(unittest.TestCase):
 class Library(unittest.TestCase):
     """What is loaded into a node, tried on a small writer."""
 
-    WRITES = "import os, sys\nfor name in sys.argv[1:]:\n f = os.open(name, os.O_CREAT | os.O_WRONLY | os.O_APPEND)\n" \
-             " for part in (b'a' * 9, b'b' * 9, b'c' * 9): os.write(f, part)\n"
+    WRITES = (
+        "import os, sys\nfor name in sys.argv[1:]:\n f = os.open(name, os.O_CREAT | os.O_WRONLY | os.O_APPEND)\n"
+        " for part in (b'a' * 9, b'b' * 9, b'c' * 9): os.write(f, part)\n"
+    )
 
     @classmethod
     def setUpClass(cls):

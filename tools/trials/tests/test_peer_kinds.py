@@ -81,8 +81,12 @@ class Strangers(AtADoor):
 class Kinds(AtADoor):
     def test_each_kind_sends_its_strangers(self):
         network = types.SimpleNamespace(port=self.port, instance=lambda: bytes(32))
-        counts = {"trickles": ("127.0.0.1", 1), "slow-strangers": ("127.0.0.1", 4),
-                  "trickles-elsewhere": ("127.0.0.2", 1), "many-trickles": ("127.0.0.2", 8)}
+        counts = {
+            "trickles": ("127.0.0.1", 1),
+            "slow-strangers": ("127.0.0.1", 4),
+            "trickles-elsewhere": ("127.0.0.2", 1),
+            "many-trickles": ("127.0.0.2", 8),
+        }
         self.assertEqual(set(counts), set(STRANGERS))
         for kind, (address, count) in counts.items():
             with self.subTest(kind):
@@ -97,8 +101,17 @@ class Kinds(AtADoor):
 
     def test_what_each_kind_may_cost(self):
         limits = {kind: limit_of(kind) for kind in ("silent-connections", "resets", *STRANGERS)}
-        self.assertEqual(limits, {"silent-connections": 0.1, "resets": 0.1, "trickles": 0.2, "trickles-elsewhere": 0.2,
-                                  "many-trickles": 1 / 3, "slow-strangers": 0.2})
+        self.assertEqual(
+            limits,
+            {
+                "silent-connections": 0.1,
+                "resets": 0.1,
+                "trickles": 0.2,
+                "trickles-elsewhere": 0.2,
+                "many-trickles": 1 / 3,
+                "slow-strangers": 0.2,
+            },
+        )
 
 
 class Restarts(unittest.TestCase):

@@ -29,8 +29,12 @@ print('highway: a reason', file=sys.stderr)
 write('said', b'')
 time.sleep(60)
 """
-WELL = {"serve": LISTENS + TAKES, "run": SAYS, "mend": "copy(words[0], words[1])",
-        "replay": "print('faulty -'); print('final 1\\n' * (10 if '/alone/' in words[0] else 8), end='')"}
+WELL = {
+    "serve": LISTENS + TAKES,
+    "run": SAYS,
+    "mend": "copy(words[0], words[1])",
+    "replay": "print('faulty -'); print('final 1\\n' * (10 if '/alone/' in words[0] else 8), end='')",
+}
 
 
 class Ended:
@@ -169,8 +173,9 @@ class Networks(InRoom):
         network.validate(0, network.address)
         self.await_validators()
         self.assertEqual(network.instance(), read_head(SIGNED).instance)
-        self.assertEqual([network.lines("hub", "session "), network.lines("v0", "made "), network.lines("v0", "fault")],
-                         [1, 10, 0])
+        self.assertEqual(
+            [network.lines("hub", "session "), network.lines("v0", "made "), network.lines("v0", "fault")], [1, 10, 0]
+        )
         self.assertEqual(network.reasons("v0"), ["v0: highway: a reason"])
         self.assertEqual(network.finals(), 10)
 
@@ -252,8 +257,10 @@ class Words(unittest.TestCase):
         return status, out.getvalue()
 
     def test_a_cost_below_the_limit(self):
-        self.assertEqual(self.main("resets", ("final blocks", [100, 91], 0.1)),
-                         (0, "resets: 91 final blocks in 7 seconds, 100 without: it costs 9.0%\n"))
+        self.assertEqual(
+            self.main("resets", ("final blocks", [100, 91], 0.1)),
+            (0, "resets: 91 final blocks in 7 seconds, 100 without: it costs 9.0%\n"),
+        )
         self.assertEqual(self.main("slow-peer", ("units", [100, 81], 0.2))[0], 0)
 
     def test_a_cost_above_it(self):

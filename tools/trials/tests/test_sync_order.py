@@ -10,14 +10,14 @@ from unittest import mock
 from trials import sync_order
 
 LOG = "/srv/a/node.log"
-MADE = '''\
+MADE = """\
 71 openat(AT_FDCWD</srv/a>, "node.log.lock", O_WRONLY|O_CREAT|O_NOCTTY|O_APPEND|O_CLOEXEC, 0666) = 4</srv/a/node.log.lock>
 71 openat(AT_FDCWD</srv/a>, "node.log.part", O_WRONLY|O_CREAT|O_APPEND|O_CLOEXEC, 0666) = 6</srv/a/node.log.part>
 71 write(6</srv/a/node.log.part>, ""..., 74) = 74
 71 fdatasync(6</srv/a/node.log.part>)    = 0
 71 rename("node.log.part", "node.log")   = 0
 71 openat(AT_FDCWD</srv/a>, ".", O_RDONLY|O_NOCTTY|O_CLOEXEC) = 7</srv/a>
-'''
+"""
 SYNCED = "71 fdatasync(6</srv/a/node.log>)         = 0\n"
 FOLDER = "71 fsync(7</srv/a>)                      = 0\n"
 APPEND = '71 write(6</srv/a/node.log>, ""..., 180)  = 180\n'

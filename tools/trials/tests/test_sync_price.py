@@ -24,8 +24,9 @@ REPLAY = "print('units 4\\nfaulty -\\n' + 'final 1\\n' * (10 if os.path.exists('
 
 class Costs(unittest.TestCase):
     def test_no_more_than_a_tenth(self):
-        self.assertEqual(sync_price.told([28, 29], [30, 30]),
-                         ("57 final blocks in 2 runs, 60 without syncs: they cost 5.0%", True))
+        self.assertEqual(
+            sync_price.told([28, 29], [30, 30]), ("57 final blocks in 2 runs, 60 without syncs: they cost 5.0%", True)
+        )
         self.assertTrue(sync_price.told([33], [30])[1])
 
     def test_more_than_a_tenth(self):

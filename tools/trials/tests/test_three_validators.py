@@ -22,8 +22,12 @@ print('units 4 parked 0')
 print('faulty -')
 print('final 1')
 """
-WELL = {"serve": NODE, "run": NODE, "replay": REPLAY,
-        "mend": "os.remove('is-torn'); copy(words[0], words[1]); print('1 of 2 entries')"}
+WELL = {
+    "serve": NODE,
+    "run": NODE,
+    "replay": REPLAY,
+    "mend": "os.remove('is-torn'); copy(words[0], words[1]); print('1 of 2 entries')",
+}
 LOGS = [f"*/{name}.log" for name in ("hub", "v0", "v1", "v2")]
 
 
@@ -48,9 +52,13 @@ class Agreements(unittest.TestCase):
         self.assertEqual((said.count("1 final blocks\n"), said.count("agree 1\n")), (3, 3))
 
     def test_logs_that_do_not(self):
-        for answers in ({"replay": ("units 4\nfaulty 2\nfinal 1\n", 0)}, {"replay": ("units 4\nfaulty -\n", 0)},
-                        {"replay": ("units 4\nfaulty -\nfinal 1\n", 8)}, {"replay": ("", 127)},
-                        {"audit": ("conflict\n", 3)}):
+        for answers in (
+            {"replay": ("units 4\nfaulty 2\nfinal 1\n", 0)},
+            {"replay": ("units 4\nfaulty -\n", 0)},
+            {"replay": ("units 4\nfaulty -\nfinal 1\n", 8)},
+            {"replay": ("", 127)},
+            {"audit": ("conflict\n", 3)},
+        ):
             with self.subTest(answers=answers):
                 self.assertFalse(self.agree(**answers)[0])
 

@@ -107,12 +107,23 @@ class Hurts(unittest.TestCase):
         self.assertEqual(self.order(two_processes.hurt_together), ["run 0 hub (0)", "run 0 hub (1)", "after 1.5"])
 
     def test_overlap(self):
-        self.assertEqual(self.order(two_processes.hurt_overlap), [
-            "run 0 hub (0)", "after 1", "run 0 hub (2)", "after 0.3", "kill run 0 hub (0)", "run 0 hub (5)", "after 1"])
+        self.assertEqual(
+            self.order(two_processes.hurt_overlap),
+            [
+                "run 0 hub (0)",
+                "after 1",
+                "run 0 hub (2)",
+                "after 0.3",
+                "kill run 0 hub (0)",
+                "run 0 hub (5)",
+                "after 1",
+            ],
+        )
 
     def test_beside(self):
-        self.assertEqual(self.order(two_processes.hurt_beside), [
-            "serve v0.log", "after 0.05", "run 0 hub (2)", "after 1.5"])
+        self.assertEqual(
+            self.order(two_processes.hurt_beside), ["serve v0.log", "after 0.05", "run 0 hub (2)", "after 1.5"]
+        )
 
 
 class Tries(InFolder):
@@ -143,8 +154,9 @@ class Tries(InFolder):
             told = self.main(self.network(), "together", "2", "--jobs", "2")
         self.assertEqual(told, (0, "together: 2 tries, 0 with a problem\n"))
         starts = (self.folder / "starts").read_text(encoding="ascii").splitlines()
-        self.assertEqual([starts.count(start) for start in ("serve hub.log", "run v0.log", "run v1.log", "run v2.log")],
-                         [2, 6, 2, 2])
+        self.assertEqual(
+            [starts.count(start) for start in ("serve hub.log", "run v0.log", "run v1.log", "run v2.log")], [2, 6, 2, 2]
+        )
 
     def test_each_problem_is_told_and_counted(self):
         with mock.patch.object(two_processes, "one_try", side_effect=[None, "hub: torn", "v0: faulty 0"]):
@@ -155,11 +167,15 @@ class Tries(InFolder):
         locks = "write(words[2] + '.lock', b'')"
         log = f"copy({str(SIGNED)!r}, words[2])"
         for node, replay, problem in (
-                (f"{locks}; {WAITS}", "", None),
-                (f"{log}; {locks}; {WAITS}", REPORT, None),
-                (f"{log}; {locks}; {WAITS}", "print('input v0.log: torn at 9'); sys.exit(2)",
-                 "v0: status 2: input v0.log: torn at 9"),
-                ("sys.exit(5)", "", "v0: it ended with status 5, and took no lock")):
+            (f"{locks}; {WAITS}", "", None),
+            (f"{log}; {locks}; {WAITS}", REPORT, None),
+            (
+                f"{log}; {locks}; {WAITS}",
+                "print('input v0.log: torn at 9'); sys.exit(2)",
+                "v0: status 2: input v0.log: torn at 9",
+            ),
+            ("sys.exit(5)", "", "v0: it ended with status 5, and took no lock"),
+        ):
             with self.subTest(node=node, replay=replay):
                 self.assertEqual(two_processes.killed_try(self.program(run=node, replay=replay), "killed"), problem)
 
