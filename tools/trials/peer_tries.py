@@ -58,11 +58,12 @@ JOURNAL_ASKED = 8192
 class Network:
     """A hub and validators, each in a folder of its own; all of them are stopped at the end."""
 
-    def __init__(self, room, program, validators, exponent):
+    def __init__(self, room, program, validators, exponent, **further):
         self.room, self.program, self.nodes, self.restarts = room, program, {}, 0
         room.mkdir()
         members = list(range(validators))
-        settings = {"weights": [1] * validators, "threshold": 0, "levels": 1, "exponents": [exponent, 12], "leaders": members}
+        settings = {"weights": [1] * validators, "threshold": 0, "levels": 1, "exponents": [exponent, 12],
+                    "leaders": members} | further
         (room / "settings.json").write_text(json.dumps(settings), encoding="ascii")
         lines = [hashlib.sha256(bytes([number])).hexdigest() for number in members]
         (room / "keys").write_text("".join(f"{line}\n" for line in lines), encoding="ascii")

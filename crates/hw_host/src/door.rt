@@ -29,6 +29,9 @@ const FIRST_PAUSE: u64 = 200;
 
 const LONGEST_PAUSE: u64 = 5_000;
 
+/// A session with a peer that was dialled is of use where it is shorter, or brings something new.
+const LONG_SESSION: Duration = Duration::from_secs(5);
+
 /// A door over a network. It listens at the address that it is made with, as `127.0.0.1:7000`, and
 /// dials addresses of that form, or with the name of a host.
 ///
@@ -49,7 +52,8 @@ const LONGEST_PAUSE: u64 = 5_000;
 ///
 /// A peer that was dialled and let a call wait for all of its time is given a tenth of it from then on, until a
 /// session with it ends well. Where it lets a call wait for all of that too, it isn't dialled for 19 times as
-/// long, and each dial of it fails at once. A session in which something came that is in the log now is no such one.
+/// long, and each dial of it fails at once. So it is with a peer that doesn't end when the session does, and with one
+/// whose session took more than 5 seconds. A session in which something came that is in the log now is no such one.
 ///
 /// On a peer that came, the reads and writes of a session wait 2 seconds in all. It hung where they waited longer
 /// than half a second for each of its answers and a second for each 65,536 bytes that it sent. Then its network, the
@@ -499,8 +503,16 @@ impl<'a, R: Net + Voice> HostDoor<'a, R> {
         }
     }
 
+    /// Whether the session took long, and brought nothing new.
+    fn has_wasted(&self) -> bool {
+        match (&self.session, Instant::now(&self.runtime)) {
+            (Some(session), Ok(now)) => session.taken(now) > LONG_SESSION && !self.has_new(),
+            _ => false,
+        }
+    }
+
     /// Parts from a peer in whose session no call failed: sends what is held, and lets the peer end too. One that was
-    /// dialled and doesn't end hung.
+    /// dialled and doesn't end hung, and so did one that said nothing new for long.
     fn part(&mut self)
         ensures numbers { self.new.numbers ≡ self.old.numbers }
     {
@@ -518,7 +530,7 @@ impl<'a, R: Net + Voice> HostDoor<'a, R> {
         };
         if self.peer.dialled.is_some() {
             self.failures.end();
-            if has_hung {
+            if has_hung || self.has_wasted() {
                 self.note_hung();
             } else {
                 self.hung.forgive(self.peer.called());
