@@ -205,7 +205,7 @@ def slow_name(trial):
     if not shutil.which("cc") or subprocess.run(words, check=False).returncode:
         return Seen(True, "not tried: there is no C compiler")
     # The first two dials are waited for; then it rests.
-    trial = Trial(trial.program, max(trial.seconds, 20), trial.room)
+    trial.seconds = max(trial.seconds, 20)
     return beside_a_good_one(trial, "no-such-host.invalid:7401", {"LD_PRELOAD": str(library)})
 
 
@@ -276,7 +276,8 @@ def talking_peer(trial):
         while True:
             link.sendall(bytes(8192))
             time.sleep(0.1)
-    return with_peer(Trial(trial.program, max(trial.seconds, 30), trial.room), speaks)
+    trial.seconds = max(trial.seconds, 30)
+    return with_peer(trial, speaks)
 
 
 def parting_peer(trial):
@@ -286,7 +287,7 @@ def parting_peer(trial):
         link.recv(64)
         link.sendall(hello + framed(b"\x05"))
         time.sleep(60)
-    return with_peer(Trial(trial.program, max(trial.seconds, 10), trial.room), speaks)
+    return with_peer(trial, speaks)
 
 
 # ---- a hub that can't listen
