@@ -13,7 +13,7 @@ use hw_io::Consumer;
 use certificate::tell_origin;
 use hw_program::{Command, NodeCommand, OUT_OF_MEMORY, Request, Words, highway};
 use hw_types::OutOfMemory;
-use node_log::look_ahead;
+use node_log::{NodeFileNames, look_ahead};
 use std::env;
 use std::io::ErrorKind;
 use std::process::ExitCode;
@@ -57,7 +57,7 @@ fn run_on_host(rt: HostRuntime, words: &Words) -> Result<u8, OutOfMemory> {
         None => None,
     };
     let round = match (&request, &log) {
-        (Request::Node(command), Some(log)) => look_ahead(rt, command.sources(), log),
+        (Request::Node(command), Some(log)) => look_ahead(rt, names_of(command), log),
         _ => 0,
     };
     let mut files = NodeFiles::new(rt, log.as_ref()).within(
@@ -86,6 +86,16 @@ fn run_on_host(rt: HostRuntime, words: &Words) -> Result<u8, OutOfMemory> {
         let _ = eprintln!(rt; "highway: standard output: {error}");
     }
     Ok(status)
+}
+
+/// The files of a node.
+fn names_of<'w>(command: &NodeCommand<'w>) -> NodeFileNames<'w> {
+    let sources = command.sources();
+    NodeFileNames {
+        config: sources.config,
+        keys: sources.keys,
+        log: sources.log,
+    }
 }
 
 /// The door of a node: it listens at the address of the words, if there is one, and is for meetings where the words are

@@ -11,7 +11,6 @@ use hw_codec::{config_is_in_range, encode_config};
 use hw_host::{HostFiles, LogFile};
 use hw_keys::Keys;
 use hw_log::{LogReader, read_file};
-use hw_service::Sources;
 use hw_settings::read_settings;
 use hw_types::{Bytes, Config};
 use std::alloc::Global;
@@ -21,19 +20,30 @@ use std::fs;
 const REMEDY: &str =
     "it isn't what was written, or the keys are others; put the right keys there, or move the log away and rejoin";
 
+/// The names of the files that a node begins from.
+#[derive(Clone, Copy)]
+pub struct NodeFileNames<'n> {
+    /// Its settings.
+    pub config: &'n str,
+    /// The keys of all validators.
+    pub keys: &'n str,
+    /// Its log.
+    pub log: &'n str,
+}
+
 /// Looks at the files of a node before it starts, and answers how many milliseconds its shortest round takes.
 ///
 /// The log's entries that count are held against the keys. Where one isn't signed by them, the log is refused as if
 /// another process had it, and the place of the entry is told. Otherwise its entries are counted from now on.
-pub fn look_ahead(rt: HostRuntime, sources: Sources<'_>, log: &LogFile) -> u64 {
+pub fn look_ahead(rt: HostRuntime, names: NodeFileNames<'_>, log: &LogFile) -> u64 {
     let alloc = rt.alloc();
-    let Some(config) = settings(rt, alloc, sources.config) else {
+    let Some(config) = settings(rt, alloc, names.config) else {
         return 0;
     };
-    let used = match checked_entries(rt, alloc, sources, log, &config) {
+    let used = match checked_entries(rt, alloc, names, log, &config) {
         Checked::Signed(used) => used,
         Checked::Unsigned(at) => {
-            let name = sources.log;
+            let name = names.log;
             let _ = eprintln!(rt; "highway: {name}: the entry at byte {at} isn't signed by the keys");
             log.refuse(REMEDY);
             0
@@ -80,19 +90,19 @@ fn settings(rt: HostRuntime, alloc: Global, name: &str) -> Option<Config>
 fn checked_entries(
     rt: HostRuntime,
     alloc: Global,
-    sources: Sources<'_>,
+    names: NodeFileNames<'_>,
     log: &LogFile,
     config: &Config,
 ) -> Checked
     requires { config_fault config.now ≡ None }
 {
-    let Some(text) = plain_bytes(rt, alloc, sources.keys) else {
+    let Some(text) = plain_bytes(rt, alloc, names.keys) else {
         return Checked::Unknown;
     };
     let Ok(keys) = Keys::read(alloc, text.as_slice(), config.weights.len() as u32) else {
         return Checked::Unknown;
     };
-    match fs::metadata(&rt, sources.log) {
+    match fs::metadata(&rt, names.log) {
         Ok(metadata) if metadata.is_file() => {}
         Ok(_) => return Checked::Unknown,
         Err(_) => return Checked::Signed(0),
@@ -101,7 +111,7 @@ fn checked_entries(
     if log.hold(&rt).is_err() {
         return Checked::Unknown;
     }
-    read_entries(rt, alloc, sources.log, &keys, config)
+    read_entries(rt, alloc, names.log, &keys, config)
 }
 
 /// Reads the log of this name, and holds it against the keys.
