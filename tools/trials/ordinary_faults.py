@@ -40,7 +40,7 @@ from pathlib import Path
 sys.path.insert(0, str(Path(__file__).resolve().parents[1]))
 
 from rejoin.main import free_port  # noqa: E402
-from trials.peer_tries import HELLO_KIND, Network, await_listener  # noqa: E402
+from trials.peer_tries import HELLO_KIND, Network, await_listener, run_all  # noqa: E402
 
 # A second of a node that can't work may write so many lines, and the hub of an idle network may take this share.
 LINES_A_SECOND, IDLE_SHARE = 40, 0.05
@@ -180,17 +180,16 @@ def full_journal(trial):
 # ---- names
 
 def beside_a_good_one(trial, address, environment=None):
-    """How many units a validator makes with this second PEER, beside one without it, in networks of their own."""
-    made = []
-    for peers in ((address,), ()):
-        with trial.network(validators=1, exponent=6) as network:
-            old = dict(os.environ)
-            os.environ.update(environment or {})
-            network.validate(0, network.address, *peers)
-            os.environ.clear()
-            os.environ.update(old)
-            trial.run(network, 3 * trial.seconds)
-            made.append(network.lines("v0", "made "))
+    """How many units a validator makes with this second PEER, beside one without it at the same time."""
+    with trial.network(validators=1, exponent=6) as network, trial.network(validators=1, exponent=6) as alone:
+        old = dict(os.environ)
+        os.environ.update(environment or {})
+        for each, peers in ((network, (address,)), (alone, ())):
+            each.validate(0, each.address, *peers)
+        os.environ.clear()
+        os.environ.update(old)
+        run_all((network, alone), 3 * trial.seconds)
+        made = [each.lines("v0", "made ") for each in (network, alone)]
     return Seen(made[0] * 3 >= made[1] * 2, f"{made[0]} units, and {made[1]} without it")
 
 
@@ -392,7 +391,7 @@ def next_era(trial):
 def full_disk(trial):
     disk = trial.room / "disk"
     disk.mkdir()
-    if os.geteuid() or subprocess.run(["mount", "-t", "tmpfs", "-o", "size=200k", "tmpfs", disk], check=False).returncode:
+    if os.geteuid() or subprocess.run(["mount", "-t", "tmpfs", "-o", "size=64k", "tmpfs", disk], check=False).returncode:
         return Seen(True, "not tried: a small disk can't be mounted")
     try:
         with trial.network() as network:

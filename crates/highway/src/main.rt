@@ -5,12 +5,12 @@ mod certificate;
 mod node_log;
 mod usage;
 
+use certificate::tell_origin;
 use hw_host::{
     Announced, BlockCount, HostClock, HostDoor, HostSink, LogFile, NO_LIMIT, NodeFiles, ToldFiles,
     ValueFile,
 };
 use hw_io::Consumer;
-use certificate::tell_origin;
 use hw_program::{Command, NodeCommand, OUT_OF_MEMORY, Request, Words, highway};
 use hw_types::OutOfMemory;
 use node_log::{NodeFileNames, look_ahead};

@@ -44,7 +44,9 @@ pub fn look_ahead(rt: HostRuntime, names: NodeFileNames<'_>, log: &LogFile) -> u
         Checked::Signed(used) => used,
         Checked::Unsigned(at) => {
             let name = names.log;
-            let _ = eprintln!(rt; "highway: {name}: the entry at byte {at} isn't signed by the keys");
+            let _ = eprintln!(rt;
+                "highway: {name}: the entry at byte {at} isn't signed by the keys"
+            );
             log.refuse(REMEDY);
             0
         }
@@ -66,7 +68,9 @@ enum Checked {
 
 /// How many milliseconds the shortest round takes.
 fn round_of(config: &Config) -> u64 {
-    1_u64.checked_shl(u32::from(config.min_exponent)).unwrap_or(u64::MAX)
+    1_u64
+        .checked_shl(u32::from(config.min_exponent))
+        .unwrap_or(u64::MAX)
 }
 
 /// The bytes of a plain file of a bounded length. Other files, as a pipe, give their bytes only once.
@@ -115,13 +119,7 @@ fn checked_entries(
 }
 
 /// Reads the log of this name, and holds it against the keys.
-fn read_entries(
-    rt: HostRuntime,
-    alloc: Global,
-    name: &str,
-    keys: &Keys,
-    config: &Config,
-) -> Checked
+fn read_entries(rt: HostRuntime, alloc: Global, name: &str, keys: &Keys, config: &Config) -> Checked
     requires { config_fault config.now ≡ None }
 {
     let mut files = HostFiles::new(rt);
@@ -146,11 +144,7 @@ fn is_same(alloc: Global, left: &Config, right: &Config) -> Option<bool>
 }
 
 /// Holds the entries that are left against the keys, up to the first that counts and isn't signed by them.
-fn held_against(
-    files: &mut HostFiles<HostRuntime>,
-    reader: &mut LogReader,
-    keys: &Keys,
-) -> Checked
+fn held_against(files: &mut HostFiles<HostRuntime>, reader: &mut LogReader, keys: &Keys) -> Checked
     requires { PlacesFit reader.old files.old.allowance }
 {
     let mut count = 0_u64;

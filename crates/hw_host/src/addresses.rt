@@ -134,9 +134,8 @@ fn place_of(names: &[Resolved], name: &str) -> Option<usize> {
 /// Whether a name isn't to be resolved yet.
 fn is_fresh(resolved: Option<&Resolved>, now: Instant) -> bool {
     match resolved {
-        Some(resolved) =>
-            resolved.has_answered
-                || now.duration_since(resolved.at) < Duration::from_secs(RESOLVED_SECONDS),
+        Some(resolved) => resolved.has_answered
+            || now.duration_since(resolved.at) < Duration::from_secs(RESOLVED_SECONDS),
         None => false,
     }
 }

@@ -14,11 +14,10 @@ use crate::suspects::Suspects;
 use crate::waiting::{Visitor, WaitingRoom};
 use hw_io::{Door, DoorNumbers, IoFault};
 use std::alloc::Global;
-use std::io;
 use std::io::ErrorKind;
 use std::net::{IpAddr, Net, OpenListener, OpenStream, TcpListener};
-use std::thread;
 use std::time::{Duration, Instant};
+use std::{io, thread};
 
 /// How many connections are let in at most before it is looked who said something.
 const LET_IN: usize = 64;
@@ -28,9 +27,6 @@ const LET_IN: usize = 64;
 const FIRST_PAUSE: u64 = 200;
 
 const LONGEST_PAUSE: u64 = 5_000;
-
-/// A session with a peer that was dialled is of use where it is shorter, or brings something new.
-const LONG_SESSION: Duration = Duration::from_secs(5);
 
 /// A door over a network. It listens at the address that it is made with, as `127.0.0.1:7000`, and
 /// dials addresses of that form, or with the name of a host.
@@ -53,7 +49,8 @@ const LONG_SESSION: Duration = Duration::from_secs(5);
 /// A peer that was dialled and let a call wait for all of its time is given a tenth of it from then on, until a
 /// session with it ends well. Where it lets a call wait for all of that too, it isn't dialled for 19 times as
 /// long, and each dial of it fails at once. So it is with a peer that doesn't end when the session does, and with one
-/// whose session took more than 5 seconds. A session in which something came that is in the log now is no such one.
+/// whose session took more than 5 seconds and half a second for each of its answers. A session in which something came
+/// that is in the log now is no such one.
 ///
 /// On a peer that came, the reads and writes of a session wait 2 seconds in all. It hung where they waited longer
 /// than half a second for each of its answers and a second for each 65,536 bytes that it sent. Then its network, the
@@ -492,21 +489,22 @@ impl<'a, R: Net + Voice> HostDoor<'a, R> {
     fn note_visit(&mut self)
         ensures { self.new ≡ record self.old { suspects = self.new.suspects; known = self.new.known } }
     {
+        let is_new = self.has_new();
         if let (Some(address), Some(session)) = (self.peer.came_from, &self.session) {
             if let Ok(now) = Instant::now(&self.runtime) {
+                let taken = session.taken(now);
                 if session.has_hung() && !self.is_for_meetings {
                     self.suspects.note(address, now, session.blocked());
                 }
-                self.known
-                    .note(address, now, session.taken(now), self.has_new());
+                self.known.note(address, now, taken, is_new);
             }
         }
     }
 
-    /// Whether the session took long, and brought nothing new.
-    fn has_wasted(&self) -> bool {
+    /// Whether the session took long for what the peer answered, and brought nothing new.
+    fn has_dragged(&self) -> bool {
         match (&self.session, Instant::now(&self.runtime)) {
-            (Some(session), Ok(now)) => session.taken(now) > LONG_SESSION && !self.has_new(),
+            (Some(session), Ok(now)) => session.has_dragged(now) && !self.has_new(),
             _ => false,
         }
     }
@@ -530,7 +528,7 @@ impl<'a, R: Net + Voice> HostDoor<'a, R> {
         };
         if self.peer.dialled.is_some() {
             self.failures.end();
-            if has_hung || self.has_wasted() {
+            if has_hung || self.has_dragged() {
                 self.note_hung();
             } else {
                 self.hung.forgive(self.peer.called());

@@ -339,7 +339,13 @@ impl LogState {
 
 /// How long this file is. It is an error where another file has its name, or none.
 fn length_of<R: rt::Files<File = File>>(runtime: &R, name: &str, file: &File) -> io::Result<u64> {
-    let (open, named) = (file.metadata()?, fs::metadata(runtime, name)?);
+    let open = file.metadata()?;
+    let named = match fs::metadata(runtime, name) {
+        Err(error) if error.kind() == ErrorKind::NotFound => {
+            return Err(io::Error::other("it was renamed or removed"));
+        }
+        outcome => outcome?,
+    };
     if open.dev() != named.dev() || open.ino() != named.ino() {
         return Err(io::Error::other("another file has its name"));
     }

@@ -169,3 +169,11 @@ pub(crate) fn has_hung(blocked: u64, answers: u32, received: u64) -> bool
 {
     u64::from(answers) * ANSWER_MILLISECONDS + received / BYTES_A_SECOND * 1_000 < blocked
 }
+
+/// Whether a session with a peer that was dialled took longer than one of use: a wait, and the time that the peer earned
+/// by its answers.
+pub(crate) fn has_dragged(taken: u64, answers: u32) -> bool
+    ensures { IsTrue result ↔ (5000 + earned_time answers 0 < taken) }
+{
+    WAIT_MILLISECONDS + u64::from(answers) * ANSWER_MILLISECONDS < taken
+}

@@ -2,7 +2,7 @@
 //! bounded.
 ghost use Rattle.std.specs.{Prelude.{◌≤◌, length, IfOk}, Io.{ReadsAtMost}};
 
-use crate::patience::{Patience, Progress, has_hung};
+use crate::patience::{Patience, Progress, has_dragged, has_hung};
 use std::alloc::Global;
 use std::io::{BufReader, ErrorKind, Read, Write};
 use std::net::{OpenStream, Shutdown};
@@ -283,7 +283,12 @@ impl<S: OpenStream + Read + Write + Drop> Session<S> {
         }
     }
 
-    /// How long it has taken, as far as the clock says so.
+    /// Whether it has taken longer than a session of use with a peer that answers so often.
+    pub(crate) fn has_dragged(&self, now: Instant) -> bool {
+        has_dragged(milliseconds(self.taken(now)), self.answers)
+    }
+
+    /// How long it has taken.
     pub(crate) fn taken(&self, now: Instant) -> Duration {
         now.duration_since(self.began)
     }
