@@ -425,7 +425,10 @@ def main():
     program, failed = str(Path(asked.program).resolve()), 0
     for name in asked.kinds or KINDS:
         with tempfile.TemporaryDirectory(prefix="highway-") as room:
-            seen = KINDS[name](Trial(program, asked.seconds, Path(room)))
+            try:
+                seen = KINDS[name](Trial(program, asked.seconds, Path(room)))
+            except (SystemExit, OSError, subprocess.SubprocessError) as error:
+                seen = Seen(False, str(error))
         failed += not seen.is_well
         print(f"{name}: {'as it should be' if seen.is_well else 'NOT AS IT SHOULD BE'}: {seen.text}", flush=True)
     return 1 if failed else 0
