@@ -7,12 +7,10 @@ a page names what isn't there:
 - a link to a file of the repository, or a path in backquotes that begins with a folder of it;
 - a crate: a word that begins with hw_ and isn't in crates.txt;
 - a name in backquotes, as `deliver` or `Core::deliver`, whose words stand nowhere in the sources;
-- in the table of docs/ARCHITECTURE.md that has a column "Depends on", a row that says other crates than crates.txt does,
-  and a crate that no row names.
+- a crate that no row of docs/ARCHITECTURE.md begins with.
 
-It also says lines above 120 columns, tables and quoted text left out, and the marks that a merge leaves. `--write`
-writes the column anew in place of saying that it is wrong. The status is 1 where anything was said, and 2 where the
-repository can't be read."""
+It also says lines above 120 columns, tables and quoted text left out, and the marks that a merge leaves. The status is
+1 if anything was said, and 2 if the repository can't be read."""
 
 import argparse
 import re
@@ -26,7 +24,6 @@ LINK = re.compile(r"\[[^\]]*\]\(([^)\s]+)\)")
 QUOTED = re.compile(r"`([^`]+)`")
 CRATE = re.compile(r"\bhw_[a-z0-9_]*[a-z0-9]\b")
 NAME = re.compile(r"[A-Za-z_][A-Za-z0-9_]*(?:::[A-Za-z_][A-Za-z0-9_]*)*")
-COLUMN = "Depends on"
 MERGE = re.compile(r"<{7} |={7}$|>{7} ")
 # Names of others, and the shortest name that is no variable of a formula.
 OTHERS = {"highway_core"}
@@ -110,63 +107,27 @@ def faults_of(page, root, crates, words):
             yield f"{page.relative_to(root)}:{number}: {what}"
 
 
-def cells_of(line):
-    return [cell.strip() for cell in line.strip().strip("|").split("|")]
-
-
-def said_of(names, crates):
-    """The cell of the column for a row that names these crates: what they stand on, themselves left out."""
-    found = []
-    for name in names:
-        found += [it for it in crates[name] if it not in found and it not in names]
-    return ", ".join(it.removeprefix("hw_") for it in found) or "nothing"
-
-
-def with_column(text, crates):
-    """The page with its column written anew, what was wrong, and the crates that a row names."""
-    rows, faults, named, at = [], [], set(), None
-    for number, line in enumerate(text.splitlines(), 1):
-        is_row = line.startswith("|")
-        cells = cells_of(line) if is_row else []
-        if is_row and COLUMN in cells:
-            at = cells.index(COLUMN)
-        elif not is_row:
-            at = None
-        elif at is not None and not set(line) <= set("|-: "):
-            names = [it for it in re.findall(r"\w+", cells[0]) if it in crates]
-            named.update(names)
-            wanted = said_of(names, crates)
-            if names and cells[at] != wanted:
-                faults.append(f"{number}: {cells[0]} depends on {wanted}, and the row says {cells[at]}")
-                cells[at] = wanted
-                line = f"| {' | '.join(cells)} |"
-        rows.append(line)
-    return "\n".join(rows) + "\n", faults, named
-
-
-def column_faults(root, crates, is_writing):
-    """What is wrong with the column of docs/ARCHITECTURE.md, which is written anew where that is asked for."""
+def lacking_rows(root, crates):
+    """The crates that no row of the tables in docs/ARCHITECTURE.md begins with."""
     page = root / "docs" / "ARCHITECTURE.md"
     if not page.is_file():
         return []
-    text, faults, named = with_column(page.read_text(encoding="utf-8"), crates)
-    lacking = [f"docs/ARCHITECTURE.md: no row names the crate {it}" for it in crates if it not in named]
-    if is_writing:
-        page.write_text(text, encoding="utf-8")
-        return lacking
-    return [f"docs/ARCHITECTURE.md:{it}" for it in faults] + lacking
+    named = set()
+    for line in page.read_text(encoding="utf-8").splitlines():
+        if line.startswith("|"):
+            named.update(re.findall(r"\w+", line.split("|")[1]))
+    return [f"docs/ARCHITECTURE.md: no row names the crate {it}" for it in crates if it not in named]
 
 
 def main(arguments=None):
     parser = argparse.ArgumentParser(description=__doc__, formatter_class=argparse.RawDescriptionHelpFormatter)
     parser.add_argument("root", nargs="?", default=Path(__file__).resolve().parents[2], type=Path, metavar="ROOT")
-    parser.add_argument("--write", action="store_true", help="writes the column of docs/ARCHITECTURE.md anew")
     words = parser.parse_args(arguments)
     if not (words.root / "crates.txt").is_file():
         print(f"check_documents: {words.root} has no crates.txt", file=sys.stderr)
         return 2
     crates = crates_of(words.root)
-    faults = column_faults(words.root, crates, words.write)
+    faults = lacking_rows(words.root, crates)
     known = words_of(words.root)
     for page in pages_of(words.root):
         faults += faults_of(page, words.root, crates, known)
