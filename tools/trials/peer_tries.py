@@ -57,6 +57,8 @@ PEERS = ("silent-peer", "trickling-peer", "slow-peer")
 HELLO_KIND, HAVE_KIND, LONG_FRAME = b"\x01", b"\x03", (1 << 20).to_bytes(4) + b"\x02"
 # The /64 of strangers, of the range for networks of one's own.
 SHARED_NETWORK = "fd00:77:0:1"
+# An option of Linux: an address may be taken that no interface has.
+IPV6_FREEBIND = 78
 # How many vertices a stranger asks for at most: those of some minutes.
 JOURNAL_ASKED = 8192
 
@@ -225,6 +227,8 @@ class Stranger:
             with contextlib.suppress(OSError), socket.socket(family) as stream:
                 # A small buffer, so that the hub isn't rid of much that isn't read.
                 stream.setsockopt(socket.SOL_SOCKET, socket.SO_RCVBUF, 4096)
+                if family == socket.AF_INET6:
+                    stream.setsockopt(socket.IPPROTO_IPV6, IPV6_FREEBIND, 1)
                 source = self.source if family == socket.AF_INET else f"{self.source}{self.visits + 1:x}"
                 stream.bind((source, 0))
                 stream.connect((self.host, self.port))
