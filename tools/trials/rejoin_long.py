@@ -77,7 +77,11 @@ def slow_line(port, rate):
             with contextlib.suppress(OSError):
                 while True:
                     near = door.accept()[0]
-                    far = socket.create_connection(("127.0.0.1", port))
+                    try:
+                        far = socket.create_connection(("127.0.0.1", port))
+                    except OSError:
+                        near.close()
+                        continue
                     for pair in ((near, far), (far, near)):
                         pair[0].setsockopt(socket.SOL_SOCKET, socket.SO_RCVBUF, 65536)
                         threading.Thread(target=pump, args=pair, daemon=True).start()
