@@ -1,6 +1,7 @@
 """Brings a validator's log back after a loss, and says when it is safe to run again.
 
-    rejoin.py mend LOG
+    rejoin.py new PROGRAM CONFIG KEYS LOG
+    rejoin.py mend LOG [--program PROGRAM]
     rejoin.py join PROGRAM CONFIG KEYS LOG ME PEER ..
 
 A validator may make a unit only if it knows each unit that it ever sent. After a loss (of power, of a disk, of a file)
@@ -10,9 +11,14 @@ each of them by the program's `host` and `meet`, looks again until no peer has a
 union in place of LOG. LOG is replaced only where it is safe to run; a copy of what it was stays beside it.
 
 `mend` cuts zeros off the end of a log, where nothing but zeros follows a whole entry, and moves a file away that has no
-whole header. `join` does the same first. Neither ever cuts what has an entry, and each keeps a copy.
+whole header. `join` does the same first. Neither ever cuts what has an entry, and each keeps a copy. With `--program` it
+also cuts the beginning of an entry, as a kill in the middle of an append leaves it, so that a service may call it before
+each start; there has to be a log then.
 
-The status is 0 where it is safe (or mended), 1 where it isn't, with the reason, and 2 for wrong words."""
+`new` makes the first log of a node that never ran, and refuses where there was one. A validator that ran before needs
+`join`.
+
+The status is 0 where it is safe (or mended, or made), 1 where it isn't, with the reason, and 2 for wrong words."""
 
 import argparse
 import contextlib
@@ -122,10 +128,28 @@ def alone_with(path):
         yield
 
 
-def mend(path):
+def mend_torn(program, path):
+    """Cuts the beginning of an entry off a log by the program, and answers what was done, as a text."""
+    with tempfile.TemporaryDirectory(dir=path.parent, prefix=".mend-") as room:
+        new = Path(room) / "new.hwlg"
+        done = subprocess.run([program, "mend", path, new], cwd=room, capture_output=True, text=True, check=False)
+        if done.returncode:
+            raise Problem(f"mend of {path} ended with status {done.returncode}: {done.stdout.strip()}")
+        lost = path.stat().st_size - new.stat().st_size
+        if not lost:
+            return f"{path} ends with a whole entry; nothing was changed"
+        return f"{path} had {lost} bytes of an entry at its end; as it was, it is {put_in_place(new, path)} now"
+
+
+def mend(path, program=None):
     """Mends a log in place, and answers what was done, as a text."""
     path = Path(path)
+    if program and not path.exists():
+        raise Problem(f"{path} isn't there: `new` makes the first one, and `join` one of a validator that ran")
     with alone_with(path):
+        # The program reads a long log in a moment.
+        if program and path.stat().st_size > 9 and path.read_bytes()[-1:] != b"\0":
+            return mend_torn(program, path.absolute())
         size, length = whole_size(path), path.stat().st_size
         if size == 0:
             aside = kept_aside(path)
@@ -133,6 +157,8 @@ def mend(path):
             sync_folder(path.parent)
             return f"{path} has no whole header and no entry; it is {aside} now"
         if path.read_bytes()[size:].strip(b"\0"):
+            if program:
+                return mend_torn(program, path.absolute())
             raise Problem(f"{path} is torn at {size}: `highway mend` writes its whole entries into a new file")
         if size == length:
             return f"{path} ends with a whole entry; nothing was changed"
@@ -167,17 +193,29 @@ class Rejoin:
         return done.returncode, done.stdout.splitlines()
 
     def dial(self, peer, address):
-        """Meets a node that hosts at this address. It is a Problem unless the meeting was whole."""
+        """Meets a node that hosts at this address. It is a Problem unless a meeting was whole in the end.
+
+        What came in a meeting that was cut is kept, so it meets again as long as the own log grows.
+        """
         until = time.monotonic() + self.patience
         while True:
+            before = self.own_size()
             status, lines = self.run("meet", self.config, self.keys, self.own, address)
-            if lines[:1] != ["peer 0 link fault"]:
-                break
-            if time.monotonic() > until:
+            cut = lines[0] if lines and lines[0].startswith("peer 0 ") else None
+            if status in (0, 6) and cut is None:
+                return
+            if status not in (0, 6):
+                raise Problem(f"{peer}: status {status}: {lines[0] if lines else 'no line'}")
+            if self.own_size() > before:
+                until = time.monotonic() + self.patience
+            elif cut != "peer 0 link fault":
+                raise Problem(f"{peer}: status {status}: {cut}, and nothing more came")
+            elif time.monotonic() > until:
                 raise Problem(f"{peer}: link fault for {self.patience:g} seconds")
             time.sleep(0.1)
-        if status != 0 or (lines and lines[0].startswith("peer 0 ")):
-            raise Problem(f"{peer}: status {status}: {lines[0] if lines else 'no line'}")
+
+    def own_size(self):
+        return self.own.stat().st_size if self.own.exists() else 0
 
     def meet_copy(self, peer, copy):
         """Hosts the copy of a peer's log on this machine, and meets it."""
@@ -295,13 +333,38 @@ def join(rejoin, settle):
     return f"safe to run: {rejoin.log} has {len(own)} own units, {len(set(own) - had)} of them of peers{last}{kept}"
 
 
+# ---- the first log
+
+
+def make_first(program, config, keys, log):
+    """Makes the log of a node that never ran, and answers so. It is a Problem where there was one."""
+    if log.exists() or Path(f"{log}.lock").exists():
+        raise Problem(f"{log} or its lock is there, so a node ran on it: a validator that lost its log needs `join`")
+    with tempfile.TemporaryDirectory(prefix="first-log-") as room:
+        # A meeting with nobody makes the log, and no unit.
+        words = [program, "meet", config, keys, log, f"127.0.0.1:{free_port()}"]
+        done = subprocess.run(words, cwd=room, capture_output=True, text=True, check=False)
+    if done.returncode != 6 or not log.exists():
+        raise Problem(f"status {done.returncode}: {(done.stdout + done.stderr).strip()}")
+    return f"{log} is made, and has no unit"
+
+
 # ---- the command line
 
 
 def words_of(arguments):
     parser = argparse.ArgumentParser(description=__doc__, formatter_class=argparse.RawDescriptionHelpFormatter)
     commands = parser.add_subparsers(dest="command", required=True)
-    commands.add_parser("mend", help="zeros at the end, or no whole header").add_argument("log", type=Path)
+    new_words = commands.add_parser("new", help="the first log of a node that never ran")
+    for name in ("program", "config", "keys", "log"):
+        new_words.add_argument(name, type=lambda text: Path(text).absolute())
+    mend_words = commands.add_parser("mend", help="zeros at the end, or no whole header")
+    mend_words.add_argument("log", type=Path)
+    mend_words.add_argument(
+        "--program",
+        type=lambda text: Path(text).absolute(),
+        help="by it a torn entry is cut too, and there has to be a log",
+    )
     join_words = commands.add_parser("join", help="the union of the own log and those of all peers")
     for name in ("program", "config", "keys", "log"):
         join_words.add_argument(name, type=lambda text: Path(text).absolute())
@@ -324,7 +387,9 @@ def main(arguments=None):
     words = words_of(arguments)
     try:
         if words.command == "mend":
-            print(mend(words.log))
+            print(mend(words.log, words.program))
+        elif words.command == "new":
+            print(make_first(words.program, words.config, words.keys, words.log))
         else:
             peers = [
                 peer if ADDRESS.fullmatch(peer) and not Path(peer).exists() else str(Path(peer).absolute())
@@ -337,6 +402,6 @@ def main(arguments=None):
                 )
             )
     except (Problem, InputError, OSError) as error:
-        print(f"{'not mended' if words.command == 'mend' else 'not safe'}: {error}")
+        print(f"{ {'mend': 'not mended', 'new': 'not made'}.get(words.command, 'not safe')}: {error}")
         return 1
     return 0

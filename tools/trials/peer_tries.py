@@ -11,6 +11,9 @@
     many-trickles        the same; eight strangers at once at that address
     slow-strangers       the same; four strangers at once at the validators' address ask the hub for all that it has,
                          read a byte a second, and come again when they find that they were let go
+    many-addresses       the same; twenty strangers at as many addresses do as those of `trickles`
+    one-network          the same over IPv6; four strangers do so, at a new address of one /64 each time (as root)
+    asks-without-end     the same; a stranger at 127.0.0.2 asks for all that the hub has, again and again, and reads fast
     silent-peer          a validator whose second PEER accepts and says nothing
     trickling-peer       a validator whose second PEER sends a byte each second
     slow-peer            a validator whose second PEER says Hello, and then reads a byte each second
@@ -46,11 +49,23 @@ sys.path.insert(0, str(Path(__file__).resolve().parents[1]))
 from rejoin.main import free_port  # noqa: E402
 
 DATA = Path(__file__).resolve().parents[2] / "crates" / "highway" / "data"
-STRANGERS = ("trickles", "trickles-elsewhere", "many-trickles", "slow-strangers")
+STRANGERS = (
+    "trickles",
+    "trickles-elsewhere",
+    "many-trickles",
+    "slow-strangers",
+    "many-addresses",
+    "one-network",
+    "asks-without-end",
+)
 CONNECTIONS = ("silent-connections", "resets", *STRANGERS)
 PEERS = ("silent-peer", "trickling-peer", "slow-peer")
 # Frames begin with their length. A Hello is a kind byte and the digest of the settings, a Have a kind byte and a place.
 HELLO_KIND, HAVE_KIND, LONG_FRAME = b"\x01", b"\x03", (1 << 20).to_bytes(4) + b"\x02"
+# The /64 of strangers, of the range for networks of one's own.
+SHARED_NETWORK = "fd00:77:0:1"
+# An option of Linux: an address may be taken that no interface has.
+IPV6_FREEBIND = 78
 # How many vertices a stranger asks for at most: those of some minutes.
 JOURNAL_ASKED = 8192
 
@@ -58,8 +73,8 @@ JOURNAL_ASKED = 8192
 class Network:
     """A hub and validators, each in a folder of its own; all of them are stopped at the end."""
 
-    def __init__(self, room, program, validators, exponent):
-        self.room, self.program, self.nodes, self.restarts = room, program, {}, 0
+    def __init__(self, room, program, validators, exponent, host="127.0.0.1", **further):
+        self.room, self.program, self.host, self.nodes, self.restarts = room, program, host, {}, 0
         room.mkdir()
         members = list(range(validators))
         settings = {
@@ -68,14 +83,14 @@ class Network:
             "levels": 1,
             "exponents": [exponent, 12],
             "leaders": members,
-        }
+        } | further
         (room / "settings.json").write_text(json.dumps(settings), encoding="ascii")
         lines = [hashlib.sha256(bytes([number])).hexdigest() for number in members]
         (room / "keys").write_text("".join(f"{line}\n" for line in lines), encoding="ascii")
         self.port = free_port()
-        self.address = f"127.0.0.1:{self.port}"
+        self.address = f"[{host}]:{self.port}" if ":" in host else f"{host}:{self.port}"
         self.serve()
-        await_listener(self.port)
+        await_listener(self.port, host)
 
     def serve(self):
         """Starts the hub, for as many sessions as it can be started for."""
@@ -137,11 +152,11 @@ class Network:
         return sum(line.startswith("final ") for line in said.stdout.splitlines())
 
 
-def await_listener(port):
+def await_listener(port, host="127.0.0.1"):
     """Waits until somebody listens."""
     until = time.monotonic() + 20
     while time.monotonic() < until:
-        with contextlib.suppress(OSError), socket.create_connection(("127.0.0.1", port)):
+        with contextlib.suppress(OSError), socket.create_connection((host, port)):
             return
         time.sleep(0.05)
     sys.exit("the hub doesn't listen")
@@ -217,19 +232,25 @@ class BadPeer:
 
 
 class Stranger:
-    """Who comes to a hub from an address, treats it in this way, and comes again; it counts how often it came."""
+    """Who comes to a hub from an address, treats it in this way, and comes again; it counts how often it came.
 
-    def __init__(self, port, ended, treat, source="127.0.0.1"):
-        self.port, self.ended, self.treat, self.source, self.visits = port, ended, treat, source, 0
+    Where the host is one of IPv6, the source is the beginning of addresses, and each visit is from another one."""
+
+    def __init__(self, port, ended, treat, source="127.0.0.1", host="127.0.0.1"):
+        self.port, self.ended, self.treat, self.source, self.host, self.visits = port, ended, treat, source, host, 0
         threading.Thread(target=self.come_on, daemon=True).start()
 
     def come_on(self):
         while not self.ended.is_set():
-            with contextlib.suppress(OSError), socket.socket() as stream:
+            family = socket.AF_INET6 if ":" in self.host else socket.AF_INET
+            with contextlib.suppress(OSError), socket.socket(family) as stream:
                 # A small buffer, so that the hub isn't rid of much that isn't read.
                 stream.setsockopt(socket.SOL_SOCKET, socket.SO_RCVBUF, 4096)
-                stream.bind((self.source, 0))
-                stream.connect(("127.0.0.1", self.port))
+                if family == socket.AF_INET6:
+                    stream.setsockopt(socket.IPPROTO_IPV6, IPV6_FREEBIND, 1)
+                source = self.source if family == socket.AF_INET else f"{self.source}{self.visits + 1:x}"
+                stream.bind((source, 0))
+                stream.connect((self.host, self.port))
                 self.visits += 1
                 self.treat(stream, self.ended)
                 continue
@@ -266,6 +287,21 @@ def ask_for_all(stream, ended, instance):
         stream.sendall(have(0))
 
 
+def ask_without_end(stream, ended, instance):
+    """Asks for the whole journal again and again, and reads all that comes at once, until it is let go."""
+    stream.sendall((33).to_bytes(4) + HELLO_KIND + instance)
+    asks = threading.Thread(target=ask_on, args=(stream, ended), daemon=True)
+    asks.start()
+    while stream.recv(1 << 20) and not ended.is_set():
+        pass
+
+
+def ask_on(stream, ended):
+    with contextlib.suppress(OSError):
+        while not ended.is_set():
+            stream.sendall(have(0) * 64)
+
+
 def have(place):
     """The frame that asks for the journal from this place on."""
     return (9).to_bytes(4) + HAVE_KIND + place.to_bytes(8)
@@ -276,6 +312,18 @@ def strangers_at(kind, network, ended):
     if kind == "slow-strangers":
         asking = functools.partial(ask_for_all, instance=network.instance())
         return [Stranger(network.port, ended, asking) for _ in range(4)]
+    if kind == "asks-without-end":
+        return [
+            Stranger(network.port, ended, functools.partial(ask_without_end, instance=network.instance()), "127.0.0.2")
+        ]
+    if kind == "many-addresses":
+        return [Stranger(network.port, ended, send_slowly, f"127.0.0.{number}") for number in range(2, 22)]
+    if kind == "one-network":
+        subprocess.run(["ip", "-6", "route", "replace", "local", f"{SHARED_NETWORK}::/64", "dev", "lo"], check=True)
+        return [
+            Stranger(network.port, ended, send_slowly, f"{SHARED_NETWORK}::{number}:", network.host)
+            for number in range(1, 5)
+        ]
     source, count = ("127.0.0.1" if kind == "trickles" else "127.0.0.2"), (8 if kind == "many-trickles" else 1)
     return [Stranger(network.port, ended, send_slowly, source) for _ in range(count)]
 
@@ -303,12 +351,13 @@ def hurt(kind, network, ended):
 
 def limit_of(kind):
     """Which share of the final blocks connections of this kind may cost."""
-    return {"many-trickles": 1 / 3}.get(kind, 0.2 if kind in STRANGERS else 0.1)
+    return {"many-trickles": 1 / 3, "many-addresses": 1 / 3}.get(kind, 0.2 if kind in STRANGERS else 0.1)
 
 
 def tried_connections(words, room, ended):
     """The final blocks of a network that is left alone, and of one that isn't."""
-    networks = [Network(room / name, words.program, 3, 8) for name in ("alone", "hurt")]
+    host = "::1" if words.kind == "one-network" else "127.0.0.1"
+    networks = [Network(room / name, words.program, 3, 8, host) for name in ("alone", "hurt")]
     try:
         for network in networks:
             for number in range(3):

@@ -1,15 +1,19 @@
 //! The program: its top call, over the real files, output and arguments.
 #![tactic(auto)]
 
+mod certificate;
+mod node_log;
 mod usage;
 
+use certificate::tell_origin;
 use hw_host::{
     Announced, BlockCount, HostClock, HostDoor, HostSink, LogFile, NO_LIMIT, NodeFiles, ToldFiles,
     ValueFile,
 };
 use hw_io::Consumer;
-use hw_program::{Command, OUT_OF_MEMORY, Request, Words, highway};
+use hw_program::{Command, NodeCommand, OUT_OF_MEMORY, Request, Words, highway};
 use hw_types::OutOfMemory;
+use node_log::{NodeFileNames, look_ahead};
 use std::env;
 use std::io::ErrorKind;
 use std::process::ExitCode;
@@ -21,7 +25,7 @@ const USAGE: u8 = 1;
 
 /// A script, a configuration and a list of keys have at most this many bytes: 512 for each of the 131,072
 /// vertices of a journal.
-const SHORT_FILE: usize = 67_108_864;
+pub(crate) const SHORT_FILE: usize = 67_108_864;
 
 /// A certificate that is to be checked has at most this many bytes: 4,096 for each of its 131,072 vertices.
 const CERTIFICATE: usize = 536_870_912;
@@ -39,7 +43,7 @@ fn run(rt: HostRuntime) -> Result<u8, OutOfMemory> {
 /// Runs over the files, the output, the clock and the network of the host. The values of decided blocks go into a
 /// file, and their count onto standard error; a consumer that is dropped is reported there. Where the words ask to
 /// serve or to host, the door listens at their address. The log of a node that runs is appended to by this process
-/// alone.
+/// alone, and is held against the keys before the node starts.
 fn run_on_host(rt: HostRuntime, words: &Words) -> Result<u8, OutOfMemory> {
     let alloc = rt.alloc();
     let request = Request::of(words);
@@ -52,17 +56,17 @@ fn run_on_host(rt: HostRuntime, words: &Words) -> Result<u8, OutOfMemory> {
         Some(name) => Some(LogFile::new(alloc, name)?),
         None => None,
     };
+    let round = match (&request, &log) {
+        (Request::Node(command), Some(log)) => look_ahead(rt, names_of(command), log),
+        _ => 0,
+    };
     let mut files = NodeFiles::new(rt, log.as_ref()).within(
         limit_of(&request),
         long_file(&request),
     );
     let mut out = HostSink::new(rt.stdout());
-    let mut clock = HostClock::new(rt);
-    let door = match request.listening_address() {
-        Some(address) => HostDoor::new(rt, address),
-        None => HostDoor::without_address(rt),
-    };
-    let mut door = door.behind(log.as_ref());
+    let mut clock = HostClock::of_turns(rt, log.as_ref(), round);
+    let mut door = door_of(rt, &request).behind(log.as_ref());
     let status = highway(
         alloc,
         words,
@@ -75,10 +79,36 @@ fn run_on_host(rt: HostRuntime, words: &Words) -> Result<u8, OutOfMemory> {
     if status == USAGE {
         tell_usage(&rt, words.as_slice(), &request);
     }
+    if let Request::Work(Some(Command::Check { file, .. })) = &request {
+        tell_origin(rt, *file);
+    }
     if let Some(error) = out.error() {
         let _ = eprintln!(rt; "highway: standard output: {error}");
     }
     Ok(status)
+}
+
+/// The files of a node.
+fn names_of<'w>(command: &NodeCommand<'w>) -> NodeFileNames<'w> {
+    let sources = command.sources();
+    NodeFileNames {
+        config: sources.config,
+        keys: sources.keys,
+        log: sources.log,
+    }
+}
+
+/// The door of a node: it listens at the address of the words, if there is one, and is for meetings where the words are
+/// of one.
+fn door_of<'w>(rt: HostRuntime, request: &Request<'w>) -> HostDoor<'w, HostRuntime> {
+    let door = match request.listening_address() {
+        Some(address) => HostDoor::new(rt, address),
+        None => HostDoor::without_address(rt),
+    };
+    match request {
+        Request::Node(NodeCommand::Host { .. } | NodeCommand::Meet { .. }) => door.for_meetings(),
+        _ => door,
+    }
 }
 
 /// The log that is read bit by bit, where the other files are read at once.

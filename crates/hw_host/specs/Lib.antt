@@ -1,2 +1,4 @@
+pub mod Failures
+pub mod Journal
 pub mod Patience
 pub mod Waiting

@@ -2,8 +2,11 @@
 ghost use Rattle.std.specs.{Prelude.{◌≡◌, [], None, false, IfErr, IsErr, is_ok, is_some}, Io.{ReadsAtMost}};
 ghost use Rattle.hw_io.specs.Sinks.{TakesSome};
 
+use crate::addresses::Addresses;
 use crate::complaints::{Complaints, Voice};
+use crate::failures::{Failures, pause_after};
 use crate::hung::HungPeers;
+use crate::known::Known;
 use crate::log::LogFile;
 use crate::patience::Patience;
 use crate::session::Session;
@@ -11,10 +14,10 @@ use crate::suspects::Suspects;
 use crate::waiting::{Visitor, WaitingRoom};
 use hw_io::{Door, DoorNumbers, IoFault};
 use std::alloc::Global;
-use std::io;
 use std::io::ErrorKind;
-use std::net::{IpAddr, Net, OpenListener, OpenStream, TcpListener, TcpStream, ToSocketAddrs};
+use std::net::{IpAddr, Net, OpenListener, OpenStream, TcpListener};
 use std::time::{Duration, Instant};
+use std::{io, thread};
 
 /// How many connections are let in at most before it is looked who said something.
 const LET_IN: usize = 64;
@@ -29,24 +32,39 @@ const LONGEST_PAUSE: u64 = 5_000;
 /// dials addresses of that form, or with the name of a host.
 ///
 /// `accept` waits until a peer comes and says something. Connections that say nothing wait beside each
-/// other, at most 64 of them and for 5 seconds; they are no sessions. A dial waits 5 seconds for each
-/// address of the peer, and a read or a write 5 seconds for the peer. A session ends after 10 seconds, and
-/// a second more for each 65,536 bytes that went either way.
+/// other, at most 64 of them and for 5 seconds; they are no sessions. Where it can't listen, it tries again at each
+/// `accept`. A dial waits 5 seconds for each address of the peer, and a read or a write 5 seconds for the peer. A
+/// session ends after 10 seconds, and a second more for each 65,536 bytes that went either way; with a peer that was
+/// dialled it ends after 20 seconds at most, and with a stranger after two.
 ///
-/// A peer that was dialled and let a call wait for all of this is given a tenth of it from then on, until a
+/// A door for meetings lets each of these speak as long as it moves something, since each is to take all that the other
+/// has.
+///
+/// Calls that fail have a pace. Where no peer can be taken in, 100 milliseconds pass for each failure in a row, 3
+/// seconds at most; so they do where all peers that are dialled failed, one after the other, and none was reached.
+///
+/// The addresses of a peer's name are kept. It is resolved again where none of them answered, once a minute. A dial
+/// whose name isn't known, or that took longer than it may, is one of a peer that let the call wait.
+///
+/// A peer that was dialled and let a call wait for all of its time is given a tenth of it from then on, until a
 /// session with it ends well. Where it lets a call wait for all of that too, it isn't dialled for 19 times as
-/// long, and each dial of it fails at once.
+/// long, and each dial of it fails at once. So it is with a peer that doesn't end when the session does, and with one
+/// whose session took more than 5 seconds and half a second for each of its answers. A session in which something came
+/// that is in the log now is no such one.
 ///
 /// On a peer that came, the reads and writes of a session wait 2 seconds in all. It hung where they waited longer
-/// than half a second for each of its answers and a second for each 65,536 bytes that it sent. Then its address,
-/// without the port, owes 19 times as long as they waited, which it pays by the time that passes. Where it owes more
-/// than 19 seconds it is suspect.
+/// than half a second for each of its answers and a second for each 65,536 bytes that it sent. Then its network, the
+/// address without the port, or the first half of an IPv6 address, owes 19 times as long as they waited, which it pays
+/// by the time that passes. Where it owes more than 19 seconds it is suspect.
 ///
-/// Who comes from a suspect address is served after all others that wait and said something. In a session it is waited
-/// for 20 milliseconds, and as long again for each answer. 64 addresses are kept. An honest peer of such an address
+/// Who comes from a suspect network is served after all others that wait and said something. In a session it is waited
+/// for 20 milliseconds, and as long again for each answer. 64 networks are kept. An honest peer of such a network
 /// goes on where its link answers in 20 milliseconds. One whose link is slower is starved while somebody else hangs
-/// there each time, but for the session that comes first when enough is paid. Who comes from many addresses is no
-/// suspect before each of them hung.
+/// there each time, but for the session that comes first when enough is paid.
+///
+/// Who comes from a network of which no session brought something that is in the log now is a stranger, once another
+/// network is known. All strangers are served after those who are known, and no more than a tenth of the time. In
+/// their sessions they are waited for 200 milliseconds, and as long again for each answer.
 ///
 /// A read takes what came, 65,536 bytes at most, and hands out as much of it as is asked for. The reads after it hand
 /// out the rest, and call the system again where nothing is left. What is written is held and goes out in pieces of
@@ -66,23 +84,30 @@ const LONGEST_PAUSE: u64 = 5_000;
 pub struct HostDoor<'a, R: Net + Voice> {
     runtime: R,
     log: Option<&'a LogFile>,
+    place: Option<&'a str>,
     listener: Option<R::Listener>,
     waiting: WaitingRoom<R::Stream>,
     session: Option<Session<R::Stream>>,
     peer: Peer,
+    addresses: Addresses,
+    failures: Failures,
+    refusals: u64,
     hung: HungPeers,
     suspects: Suspects,
+    known: Known,
+    is_for_meetings: bool,
     complaints: Complaints<R>,
     numbers: DoorNumbers,
 }
 
 /// What the peer of the session is called, if there was memory for it, when it was dialled, if it was, and from where
-/// it came, if it did.
+/// it came, if it did; and how many entries were appended to the log when it did.
 #[derive(Drop)]
 struct Peer {
     name: Option<String>,
     dialled: Option<Instant>,
     came_from: Option<IpAddr>,
+    appended: u64,
 }
 
 impl Peer {
@@ -91,22 +116,25 @@ impl Peer {
             name: None,
             dialled: None,
             came_from: None,
+            appended: 0,
         }
     }
 
-    fn who_came(alloc: Global, address: IpAddr) -> Peer {
+    fn who_came(alloc: Global, address: IpAddr, appended: u64) -> Peer {
         Peer {
             name: format!(in alloc; "{address}").ok(),
             dialled: None,
             came_from: Some(address),
+            appended,
         }
     }
 
-    fn who_is_dialled(alloc: Global, address: &str, now: Instant) -> Peer {
+    fn who_is_dialled(alloc: Global, address: &str, now: Instant, appended: u64) -> Peer {
         Peer {
             name: String::from_str(alloc, address).ok(),
             dialled: Some(now),
             came_from: None,
+            appended,
         }
     }
 
@@ -119,12 +147,13 @@ impl Peer {
 }
 
 impl<'a, R: Net + Voice> HostDoor<'a, R> {
-    /// A door that listens at this address. Where that fails, it is reported at once, and each `accept` fails.
-    pub fn new(runtime: R, address: &str) -> HostDoor<'a, R>
+    /// A door that listens at this address. Where that fails, it is reported at once, and each `accept` tries again.
+    pub fn new(runtime: R, address: &'a str) -> HostDoor<'a, R>
         ensures open { result.session ≡ None }
         ensures numbers { result.numbers ≡ record { accepts = 0; dials = 0; ends = 0; faults = 0 } }
     {
         let mut door = HostDoor::without_address(runtime);
+        door.place = Some(address);
         match TcpListener::bind(&runtime, address) {
             Ok(listener) => door.listener = Some(listener),
             Err(error) => door.complaints.tell(address, error),
@@ -140,12 +169,18 @@ impl<'a, R: Net + Voice> HostDoor<'a, R> {
         HostDoor {
             runtime,
             log: None,
+            place: None,
             listener: None,
             waiting: WaitingRoom::new(runtime.alloc()),
             session: None,
             peer: Peer::unknown(),
+            addresses: Addresses::new(runtime.alloc()),
+            failures: Failures::new(runtime.alloc()),
+            refusals: 0,
             hung: HungPeers::new(runtime.alloc()),
             suspects: Suspects::new(runtime.alloc()),
+            known: Known::new(runtime.alloc()),
+            is_for_meetings: false,
             complaints: Complaints::new(runtime),
             numbers: DoorNumbers::new(),
         }
@@ -156,6 +191,16 @@ impl<'a, R: Net + Voice> HostDoor<'a, R> {
         ensures { result ≡ record self.entry { log = result.log } }
     {
         HostDoor { log, ..self }
+    }
+
+    /// The same door, for meetings: a peer is waited for as long as it moves something.
+    pub fn for_meetings(self) -> HostDoor<'a, R>
+        ensures { result ≡ record self.entry { is_for_meetings = result.is_for_meetings } }
+    {
+        HostDoor {
+            is_for_meetings: true,
+            ..self
+        }
     }
 
     /// The port at which it listens, which the system chose where the address had port 0.
@@ -178,19 +223,75 @@ impl<'a, R: Net + Voice> HostDoor<'a, R> {
     {
         self.leave();
         self.peer = Peer::unknown();
-        let visitor = next_visitor(
+        let visitor = self.next_visitor()?;
+        let alloc = self.runtime.alloc();
+        let address = visitor.address;
+        self.peer = Peer::who_came(alloc, address, self.appended());
+        let now = Instant::now(&self.runtime)?;
+        let patience = self.patience_with(address, now);
+        self.session = Some(Session::new(alloc, &self.runtime, visitor.stream, patience)?);
+        Ok(())
+    }
+
+    /// The next peer that says something. After a failure a while passes, so that failures have a pace.
+    fn next_visitor(&mut self) -> io::Result<Visitor<R::Stream>>
+        ensures { self.new ≡ record self.old { listener = self.new.listener; waiting = self.new.waiting; refusals = self.new.refusals } }
+    {
+        let outcome = self.visitor();
+        match &outcome {
+            Ok(_) => self.refusals = 0,
+            Err(error) if error.kind() == ErrorKind::ConnectionAborted => {}
+            Err(_) => {
+                if self.place.is_some() {
+                    let pause = Duration::from_millis(pause_after(self.refusals));
+                    thread::sleep(&self.runtime, pause);
+                    self.refusals = self.refusals.saturating_add(1);
+                }
+            }
+        }
+        outcome
+    }
+
+    /// The next peer that says something. Where it doesn't listen yet, it tries to.
+    fn visitor(&mut self) -> io::Result<Visitor<R::Stream>>
+        ensures { self.new ≡ record self.old { listener = self.new.listener; waiting = self.new.waiting } }
+    {
+        if let (None, Some(place)) = (&self.listener, self.place) {
+            self.listener = Some(TcpListener::bind(&self.runtime, place)?);
+        }
+        next_visitor(
             &self.runtime,
             &self.listener,
             &mut self.waiting,
             &self.suspects,
-        )?;
-        let alloc = self.runtime.alloc();
-        let address = visitor.address;
-        self.peer = Peer::who_came(alloc, address);
-        let now = Instant::now(&self.runtime)?;
-        let patience = self.suspects.patience(address, now);
-        self.session = Some(Session::new(alloc, &self.runtime, visitor.stream, patience)?);
-        Ok(())
+            &self.known,
+        )
+    }
+
+    /// How much time a peer is given that came from this address.
+    fn patience_with(&self, address: IpAddr, now: Instant) -> Patience {
+        if self.suspects.has(address, now) {
+            Patience::Suspect
+        } else if self.is_for_meetings {
+            Patience::Meeting
+        } else if self.known.is_stranger(address) {
+            Patience::Stranger
+        } else {
+            Patience::Guest
+        }
+    }
+
+    /// How many entries this process appended to the log, if the door has one.
+    fn appended(&self) -> u64 {
+        match self.log {
+            Some(log) => log.appended(),
+            None => 0,
+        }
+    }
+
+    /// Whether the log has entries that it hadn't when the session began.
+    fn has_new(&self) -> bool {
+        self.appended() > self.peer.appended
     }
 
     /// Calls the peer at this address, and begins a session with it.
@@ -201,13 +302,57 @@ impl<'a, R: Net + Voice> HostDoor<'a, R> {
         self.leave();
         let alloc = self.runtime.alloc();
         let now = Instant::now(&self.runtime)?;
-        self.peer = Peer::who_is_dialled(alloc, address, now);
+        self.peer = Peer::who_is_dialled(alloc, address, now, self.appended());
         let Some(patience) = self.hung.patience(address, now) else {
             return Err(resting());
         };
-        let stream = dialled(&self.runtime, address, patience)?;
+        let stream = self.dialled(address, now, patience)?;
+        let patience = if self.is_for_meetings {
+            Patience::Meeting
+        } else {
+            patience
+        };
         self.session = Some(Session::new(alloc, &self.runtime, stream, patience)?);
         Ok(())
+    }
+
+    /// The stream to the peer at this address. A peer whose name isn't known hung, and so did one that took longer than
+    /// it may, whatever came of it.
+    fn dialled(
+        &mut self,
+        address: &str,
+        began: Instant,
+        patience: Patience,
+    ) -> io::Result<R::Stream>
+        ensures { self.new ≡ record self.old { addresses = self.new.addresses; hung = self.new.hung } }
+    {
+        let wait = Duration::from_millis(patience.wait());
+        if let Err(error) = self.addresses.resolve(&self.runtime, address, began) {
+            self.note_hung();
+            return Err(error);
+        }
+        let outcome = self.addresses.dial(&self.runtime, address, wait);
+        if let Err(error) = &outcome {
+            let has_waited = match began.elapsed(&self.runtime) {
+                Ok(taken) => taken > wait,
+                Err(_) => false,
+            };
+            // A dial that was out of time is noted with its fault.
+            if has_waited && error.kind() != ErrorKind::TimedOut {
+                self.note_hung();
+            }
+        }
+        outcome
+    }
+
+    /// Keeps that the peer that is dialled wasn't reached, or that its session failed, and waits where none was reached.
+    fn note_failure(&mut self)
+        ensures { self.new ≡ record self.old { failures = self.new.failures } }
+    {
+        if self.peer.dialled.is_some() {
+            let pause = self.failures.note(self.peer.called());
+            thread::sleep(&self.runtime, Duration::from_millis(pause));
+        }
     }
 
     /// Reads bytes of the session, if one is there, and answers how many. Where nothing was read ahead, what is held is
@@ -298,11 +443,11 @@ impl<'a, R: Net + Voice> HostDoor<'a, R> {
 
     /// The fault that a call answers which failed with this error. The error is reported, unless it says that there is
     /// no session or no listener. A peer that was dialled and let the call wait too long is given less time from now
-    /// on.
+    /// on, unless it brought something new.
     fn fault(&mut self, error: io::Error) -> IoFault
         ensures { self.new ≡ record self.old { hung = self.new.hung; complaints = self.new.complaints } }
     {
-        if error.kind() == ErrorKind::TimedOut {
+        if error.kind() == ErrorKind::TimedOut && !self.has_new() {
             self.note_hung();
         }
         // A door that listens nowhere said so when it was made.
@@ -332,24 +477,40 @@ impl<'a, R: Net + Voice> HostDoor<'a, R> {
         ensures numbers { self.new.numbers ≡ self.old.numbers }
     {
         self.part();
-        self.note_suspect();
+        self.note_visit();
+        if matches!(&self.session, Some(session) if session.has_failed()) {
+            self.note_failure();
+        }
         self.session = None;
     }
 
-    /// Keeps that the peer hung, if it came and did, however the session ended.
-    fn note_suspect(&mut self)
-        ensures { self.new ≡ record self.old { suspects = self.new.suspects } }
+    /// Keeps of a peer that came whether it hung, however the session ended, whether it brought something new, and how
+    /// long it took.
+    fn note_visit(&mut self)
+        ensures { self.new ≡ record self.old { suspects = self.new.suspects; known = self.new.known } }
     {
+        let is_new = self.has_new();
         if let (Some(address), Some(session)) = (self.peer.came_from, &self.session) {
-            if session.has_hung() {
-                if let Ok(now) = Instant::now(&self.runtime) {
+            if let Ok(now) = Instant::now(&self.runtime) {
+                let taken = session.taken(now);
+                if session.has_hung() && !self.is_for_meetings {
                     self.suspects.note(address, now, session.blocked());
                 }
+                self.known.note(address, now, taken, is_new);
             }
         }
     }
 
-    /// Parts from a peer in whose session no call failed: sends what is held, and lets the peer end too.
+    /// Whether the session took long for what the peer answered, and brought nothing new.
+    fn has_dragged(&self) -> bool {
+        match (&self.session, Instant::now(&self.runtime)) {
+            (Some(session), Ok(now)) => session.has_dragged(now) && !self.has_new(),
+            _ => false,
+        }
+    }
+
+    /// Parts from a peer in whose session no call failed: sends what is held, and lets the peer end too. One that was
+    /// dialled and doesn't end hung, and so did one that said nothing new for long.
     fn part(&mut self)
         ensures numbers { self.new.numbers ≡ self.old.numbers }
     {
@@ -361,11 +522,17 @@ impl<'a, R: Net + Voice> HostDoor<'a, R> {
             self.fault(error);
             return;
         }
-        if let Some(session) = &mut self.session {
-            session.part(&self.runtime);
-        }
+        let has_hung = match &mut self.session {
+            Some(session) => session.part(&self.runtime),
+            None => false,
+        };
         if self.peer.dialled.is_some() {
-            self.hung.forgive(self.peer.called());
+            self.failures.end();
+            if has_hung || self.has_dragged() {
+                self.note_hung();
+            } else {
+                self.hung.forgive(self.peer.called());
+            }
         }
     }
 }
@@ -398,7 +565,11 @@ impl<'a, R: Net + Voice> Door for HostDoor<'a, R> {
     fn dial(&mut self, address: &str) -> Result<(), IoFault> {
         let outcome = match self.call(address) {
             Ok(()) => Ok(()),
-            Err(error) => Err(self.fault(error)),
+            Err(error) => {
+                let fault = self.fault(error);
+                self.note_failure();
+                Err(fault)
+            }
         };
         self.numbers.count_dial();
         self.numbers.count_failure(&outcome);
@@ -443,12 +614,13 @@ fn next_visitor<R: Net + Voice>(
     listener: &Option<R::Listener>,
     waiting: &mut WaitingRoom<R::Stream>,
     suspects: &Suspects,
+    known: &Known,
 ) -> io::Result<Visitor<R::Stream>> {
     let mut pause = FIRST_PAUSE;
     for _ in 0..u64::MAX {
         let_in(runtime, listener, waiting)?;
         let now = Instant::now(runtime)?;
-        if let Some(visitor) = waiting.next(now, suspects) {
+        if let Some(visitor) = waiting.next(now, suspects, known) {
             return Ok(visitor);
         }
         runtime.sleep(Duration::from_micros(pause));
@@ -490,17 +662,4 @@ fn accepted<R: Net>(
         Err(error) if error.kind() == ErrorKind::WouldBlock => Ok(None),
         Err(error) => Err(error),
     }
-}
-
-/// The stream to the peer at this address: the first of its addresses that answers.
-fn dialled<R: Net>(runtime: &R, address: &str, patience: Patience) -> io::Result<R::Stream> {
-    let wait = Duration::from_millis(patience.wait());
-    let mut outcome = Err(ErrorKind::AddrNotAvailable.into());
-    for address in address.to_socket_addrs(runtime)? {
-        outcome = TcpStream::connect_timeout(runtime, &address, wait);
-        if outcome.is_ok() {
-            break;
-        }
-    }
-    outcome
 }

@@ -5,15 +5,20 @@
 //! values of decided blocks go into a file, and their count onto an output.
 #![tactic(auto)]
 
+mod addresses;
 mod announced;
 mod appended;
 mod clock;
 mod complaints;
 mod count;
 mod door;
+mod failures;
 mod files;
 mod hung;
+mod journal;
+mod known;
 mod log;
+mod networks;
 mod node_files;
 mod patience;
 mod session;

@@ -1,11 +1,15 @@
 //! The log of a node, as one process has it.
 ghost use Rattle.std.specs.Prelude.{◌≡◌, ◌++◌, string_bytes, IfOk, None};
 
+use crate::complaints::Voice;
+use crate::journal::{Room, Shortage};
 use std::alloc::{AllocError, Global};
 use std::cell::RefCell;
 use std::fs::{File, OpenFile, TryLockError};
 use std::io::{ErrorKind, Write};
+use std::os::unix::fs::MetadataExt;
 use std::path::Path;
+use std::time::Instant;
 use std::{fs, io, rt};
 
 /// The name of a log's lock is that of the log with this after it.
@@ -26,8 +30,11 @@ const PART_SUFFIX: &str = ".part";
 /// log's name. So a log is there with all of that append, or isn't there. It is in its folder after a crash of
 /// the machine too, where the folder can be synced.
 ///
-/// An append fails where another process has the log, and where the file isn't as long as this process
-/// found it or left it. After an append or a sync that failed, each later append fails.
+/// An append fails where another process has the log, where the file isn't as long as this process found it or left
+/// it, and where it hasn't the log's name any more. After an append or a sync that failed, each later append fails. What
+/// an append wrote that failed is cut off again, if the system does it.
+///
+/// That a new log is made is reported on standard error, and that the journal is nearly full.
 #[derive(Drop)]
 pub struct LogFile {
     name: String,
@@ -50,6 +57,56 @@ impl LogFile {
             part_name,
             state: RefCell::new(LogState::new()),
         })
+    }
+
+    /// Takes the log for this process, as the first read of it does, for who reads it before the node does. It is an
+    /// error where another process has it.
+    pub fn hold<R: rt::Files<File = File>>(&self, runtime: &R) -> io::Result<()> {
+        self.take(runtime)
+    }
+
+    /// Refuses the log from now on, as if another process had it. The reason is told where it is looked for.
+    pub fn refuse(&self, reason: &'static str) {
+        if let Ok(mut state) = self.state.try_borrow_mut() {
+            state.lost = Some(io::Error::new(ErrorKind::ResourceBusy, reason));
+        }
+    }
+
+    /// Counts the entries of the log, which may have `limit` of them and has `used` now, and says on standard error
+    /// when it is nearly full.
+    pub fn count_entries<R: Voice>(&self, runtime: &R, limit: u64, used: u64) {
+        let Ok(now) = Instant::now(runtime) else {
+            return
+        };
+        if let Ok(mut state) = self.state.try_borrow_mut() {
+            let mut room = Room::new(limit, used, now);
+            if let Some(shortage) = room.news(now) {
+                tell_shortage(runtime, self.name.as_str(), shortage);
+            }
+            state.room = Some(room);
+        }
+    }
+
+    /// How many entries this process appended.
+    pub(crate) fn appended(&self) -> u64 {
+        match self.state.try_borrow() {
+            Ok(state) => state.appended,
+            Err(_) => 0,
+        }
+    }
+
+    /// Reports what the last append makes worth a report: that the log is new, or that it is nearly full.
+    pub(crate) fn report<R: rt::Files<File = File> + Voice>(&self, runtime: &R) {
+        let Ok(mut state) = self.state.try_borrow_mut() else {
+            return
+        };
+        if state.is_new {
+            state.is_new = false;
+            tell_new(runtime, self.name.as_str());
+        }
+        if let Some(shortage) = state.shortage(runtime) {
+            tell_shortage(runtime, self.name.as_str(), shortage);
+        }
     }
 
     /// Whether it is the log of that name.
@@ -128,6 +185,12 @@ struct LogState {
     unsynced: bool,
     /// Why nothing can be appended any more.
     lost: Option<io::Error>,
+    /// Whether this process made the log, which isn't reported.
+    is_new: bool,
+    /// How many entries this process appended.
+    appended: u64,
+    /// How full it is, if its entries are counted.
+    room: Option<Room>,
 }
 
 impl LogState {
@@ -139,6 +202,23 @@ impl LogState {
             length: None,
             unsynced: false,
             lost: None,
+            is_new: false,
+            appended: 0,
+            room: None,
+        }
+    }
+
+    /// What is to be said of a journal that is nearly full, if it wasn't said.
+    fn shortage<R: Voice>(&mut self, runtime: &R) -> Option<Shortage> {
+        let room = self.room.as_mut()?;
+        room.news(Instant::now(runtime).ok()?)
+    }
+
+    /// Counts an entry.
+    fn count(&mut self) {
+        self.appended = self.appended.saturating_add(1);
+        if let Some(room) = &mut self.room {
+            room.take();
         }
     }
 
@@ -203,10 +283,11 @@ impl LogState {
         self.unsynced = true;
         self.length = Some(bytes.len() as u64);
         self.file = Some(file);
+        self.is_new = true;
         Ok(())
     }
 
-    /// Appends where the log is as long as this process found it or left it.
+    /// Appends where the log is as long as this process found it or left it, and has its name.
     fn put<R: rt::Files<File = File>>(
         &mut self,
         runtime: &R,
@@ -217,7 +298,7 @@ impl LogState {
             Some(file) => file,
             None => opened_alone(runtime, name)?,
         };
-        let length = file.metadata()?.len();
+        let length = length_of(runtime, name, &file)?;
         if length == 0 {
             self.folder = folder_of(runtime, name).ok();
         }
@@ -225,9 +306,14 @@ impl LogState {
             return Err(io::Error::other("another process wrote to it"));
         }
         self.unsynced = true;
-        file.write_all(bytes)?;
+        if let Err(error) = file.write_all(bytes) {
+            // Half an entry would have to be cut by a person.
+            let _ = file.set_len(length);
+            return Err(error);
+        }
         self.length = length.checked_add(bytes.len() as u64);
         self.file = Some(file);
+        self.count();
         Ok(())
     }
 
@@ -249,6 +335,54 @@ impl LogState {
         self.unsynced = outcome.is_err();
         self.lose_on(outcome)
     }
+}
+
+/// How long this file is. It is an error where another file has its name, or none.
+fn length_of<R: rt::Files<File = File>>(runtime: &R, name: &str, file: &File) -> io::Result<u64> {
+    let open = file.metadata()?;
+    let named = match fs::metadata(runtime, name) {
+        Err(error) if error.kind() == ErrorKind::NotFound => {
+            return Err(io::Error::other("it was renamed or removed"));
+        }
+        outcome => outcome?,
+    };
+    if open.dev() != named.dev() || open.ino() != named.ino() {
+        return Err(io::Error::other("another file has its name"));
+    }
+    Ok(open.len())
+}
+
+/// Says where a new log was made.
+fn tell_new<R: rt::Files + Voice>(runtime: &R, name: &str) {
+    let _ = match fs::canonicalize(runtime, name) {
+        Ok(whole) => {
+            let whole = whole.as_str();
+            eprintln!(runtime; "highway: {name}: makes a new log: {whole}")
+        }
+        Err(_) => eprintln!(runtime; "highway: {name}: makes a new log"),
+    };
+}
+
+/// Says how full a journal is.
+fn tell_shortage<R: Voice>(runtime: &R, name: &str, shortage: Shortage) {
+    let Shortage {
+        used,
+        limit,
+        left,
+        hourly,
+        minutes,
+    } = shortage;
+    let _ = match minutes {
+        _ if left == 0 => eprintln!(runtime;
+            "highway: {name}: all {limit} entries are used: nothing more comes in, and nothing more becomes final"
+        ),
+        Some(minutes) => eprintln!(runtime;
+            "highway: {name}: {used} of {limit} entries are used; {left} are left, for {minutes} minutes at {hourly} an hour"
+        ),
+        None => eprintln!(runtime;
+            "highway: {name}: {used} of {limit} entries are used; {left} are left"
+        ),
+    };
 }
 
 /// The name of a file beside the log of that name.

@@ -5,9 +5,11 @@ ghost use Rattle.hw_io.specs.Faults.{HasCause, raised};
 use crate::complaints::{Complaints, Voice};
 use crate::files::HostFiles;
 use crate::log::LogFile;
+use crate::values::is_values_file;
 use hw_io::{Files, IoFault, READ_LIMIT};
 use std::fs::File;
-use std::rt;
+use std::io::ErrorKind;
+use std::{io, rt};
 
 /// As many bytes as are given of any file.
 pub const NO_LIMIT: usize = READ_LIMIT;
@@ -15,7 +17,8 @@ pub const NO_LIMIT: usize = READ_LIMIT;
 /// The files of a runtime, as `HostFiles` has them, of which one may be the log of a node. That one is
 /// appended to as `LogFile` says, and where another process has it, it can't be read either.
 ///
-/// Each failure is reported on standard error, with the file's name and the system's reason.
+/// Each failure is reported on standard error, with the file's name and the system's reason. The file of the values of
+/// blocks is none of them: to look for it and to begin it fails, so that nothing else is written into it.
 ///
 /// Files may have a limit, so that one that is read at once, and has no end, is a read fault and doesn't run the
 /// program out of memory.
@@ -87,17 +90,22 @@ impl<'a, R: rt::Files<File = File> + Voice> NodeFiles<'a, R> {
     }
 
     /// Takes the log for this process, if it is that of this name. It is an error, which is counted as one
-    /// of a read, where another process has it.
+    /// of a read, where another process has it, and where the values of blocks go into the file of this name.
     fn take_log(&mut self, name: &str) -> Result<(), IoFault>
         ensures same { OnOk result (self.new ≡ self.old) }
         ensures failed { IfErr result (λ fault. fault ≡ IoFault.Failed) }
         ensures later { self.old.files.read_faults ≤ self.new.files.read_faults }
         ensures raised { OnErr result (self.new.files ≡ record self.old.files { error = self.new.files.error; read_faults = raised self.old.files.read_faults; faults_about = raised self.old.files.faults_about }) }
     {
-        let Some(log) = self.log_of(name) else {
-            return Ok(());
+        let outcome = match self.log_of(name) {
+            _ if is_values_file(&self.runtime, name) => Err(io::Error::new(
+                ErrorKind::InvalidInput,
+                "the values of final blocks go into this file, so it is no other",
+            )),
+            Some(log) => log.take(&self.runtime),
+            None => Ok(()),
         };
-        match log.take(&self.runtime) {
+        match outcome {
             Ok(()) => Ok(()),
             Err(error) => {
                 self.complaints.tell(name, error);
@@ -175,7 +183,10 @@ impl<'a, R: rt::Files<File = File> + Voice> NodeFiles<'a, R> {
         ensures rest { self.new.files ≡ record self.old.files { error = self.new.files.error; append_faults = self.new.files.append_faults } }
     {
         match log.append(&self.runtime, bytes) {
-            Ok(()) => Ok(()),
+            Ok(()) => {
+                log.report(&self.runtime);
+                Ok(())
+            }
             Err(error) => {
                 self.files.count_append_fault(error);
                 self.tell(log.blamed(error));

@@ -1,6 +1,6 @@
 //! How long a peer is waited for.
 ghost use Rattle.std.specs.Prelude.{◌≡◌, ◌⊎◌, ◌+◌, ◌*◌, ◌/◌, ◌<◌, ◌≤◌, min, IfSome, IsNone, IsTrue, ◌↔◌};
-ghost use Rattle.hw_host.specs.Patience.{earned_time};
+ghost use Rattle.hw_host.specs.Patience.{answered_time, earned_time, unbounded_time};
 
 /// No read and no write waits longer for a peer, and no dial for an address of one. A peer that works
 /// answers in milliseconds; in five seconds the sixteen validators of a hub are served on a busy machine.
@@ -8,6 +8,17 @@ const WAIT_MILLISECONDS: u64 = 5_000;
 
 /// A session may take this long, however little it moves: two waits.
 const SESSION_MILLISECONDS: u64 = 10_000;
+
+/// A session with a peer that a validator dialled may take this long, however much it moves: others are dialled after
+/// it. A peer that has more to say goes on in its next session.
+const DIALLED_MILLISECONDS: u64 = 20_000;
+
+/// A session with a stranger may take this long, while others are known.
+const STRANGER_MILLISECONDS: u64 = 2_000;
+
+/// For how long the node is blocked at first on a stranger, and for how much longer by each of its answers. Those of
+/// an honest one come from the other side of the earth in 300 milliseconds, and most in 200.
+const STRANGER_STEP_MILLISECONDS: u64 = 200;
 
 /// A session may take a second more for each 65,536 bytes that went either way. Links that are slower than
 /// 64 KB a second keep up with no network.
@@ -31,7 +42,7 @@ const ANSWER_MILLISECONDS: u64 = 500;
 /// How much time a peer is given.
 #[derive(Clone, Copy, Debug, PartialEq, Eq)]
 pub(crate) enum Patience {
-    /// All of it, for a peer that was dialled.
+    /// All of it, for a peer that a validator dialled.
     Full,
     /// A tenth, since the peer hung the last time that it was dialled.
     Tenth,
@@ -39,6 +50,10 @@ pub(crate) enum Patience {
     Guest,
     /// That of a peer that came from an address of which one hung.
     Suspect,
+    /// That of a peer that came from where no vertex came that the node hadn't.
+    Stranger,
+    /// That of a peer in a meeting, in which each takes all that the other has: it is let speak as long as it does.
+    Meeting,
 }
 
 /// How far a session is.
@@ -68,7 +83,13 @@ impl Patience {
     fn session(self, moved: u64) -> u64
         ensures { result ≡ session_time self moved }
     {
-        (SESSION_MILLISECONDS + moved / BYTES_A_SECOND * 1_000) / self.share()
+        match self {
+            Patience::Full | Patience::Tenth => {
+                unbounded(moved).min(DIALLED_MILLISECONDS) / self.share()
+            }
+            Patience::Guest | Patience::Suspect | Patience::Meeting => unbounded(moved),
+            Patience::Stranger => STRANGER_MILLISECONDS,
+        }
     }
 
     /// For how many milliseconds in all the node may be blocked on the peer of such a session.
@@ -76,11 +97,10 @@ impl Patience {
         ensures { result ≡ blocked_time self answers moved }
     {
         match self {
-            Patience::Full | Patience::Tenth => self.session(moved),
+            Patience::Full | Patience::Tenth | Patience::Meeting => self.session(moved),
             Patience::Guest => GUEST_MILLISECONDS,
-            Patience::Suspect => {
-                (SUSPECT_MILLISECONDS * (1 + u64::from(answers))).min(GUEST_MILLISECONDS)
-            }
+            Patience::Suspect => by_answers(SUSPECT_MILLISECONDS, answers),
+            Patience::Stranger => by_answers(STRANGER_STEP_MILLISECONDS, answers),
         }
     }
 
@@ -107,9 +127,28 @@ impl Patience {
     {
         match self {
             Patience::Tenth => HUNG_SHARE,
-            Patience::Full | Patience::Guest | Patience::Suspect => 1,
+            Patience::Full
+            | Patience::Guest
+            | Patience::Suspect
+            | Patience::Stranger
+            | Patience::Meeting => 1,
         }
     }
+}
+
+/// How many milliseconds a session may take in which `moved` bytes went either way, if nothing else bounds it.
+fn unbounded(moved: u64) -> u64
+    ensures { result ≡ unbounded_time moved }
+{
+    SESSION_MILLISECONDS + moved / BYTES_A_SECOND * 1_000
+}
+
+/// A step of milliseconds, and one more for each answer, up to what a guest is given.
+fn by_answers(step: u64, answers: u32) -> u64
+    requires { step ≤ 1000 }
+    ensures { result ≡ answered_time step answers }
+{
+    (step * (1 + u64::from(answers))).min(GUEST_MILLISECONDS)
 }
 
 /// What is left of a time, or none where it is up.
@@ -129,4 +168,12 @@ pub(crate) fn has_hung(blocked: u64, answers: u32, received: u64) -> bool
     ensures { IsTrue result ↔ (earned_time answers received < blocked) }
 {
     u64::from(answers) * ANSWER_MILLISECONDS + received / BYTES_A_SECOND * 1_000 < blocked
+}
+
+/// Whether a session with a peer that was dialled took longer than one of use: a wait, and the time that the peer earned
+/// by its answers.
+pub(crate) fn has_dragged(taken: u64, answers: u32) -> bool
+    ensures { IsTrue result ↔ (5000 + earned_time answers 0 < taken) }
+{
+    WAIT_MILLISECONDS + u64::from(answers) * ANSWER_MILLISECONDS < taken
 }

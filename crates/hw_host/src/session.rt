@@ -2,7 +2,7 @@
 //! bounded.
 ghost use Rattle.std.specs.{Prelude.{◌≤◌, length, IfOk}, Io.{ReadsAtMost}};
 
-use crate::patience::{Patience, Progress, has_hung};
+use crate::patience::{Patience, Progress, has_dragged, has_hung};
 use std::alloc::Global;
 use std::io::{BufReader, ErrorKind, Read, Write};
 use std::net::{OpenStream, Shutdown};
@@ -263,19 +263,34 @@ impl<S: OpenStream + Read + Write + Drop> Session<S> {
     }
 
     /// Ends what is written and reads on for a bounded while, unless a call failed: a stream that is closed
-    /// with bytes unread is reset, and the peer may lose what it was sent last.
-    pub(crate) fn part(&mut self, clock: &impl time::Clock) {
+    /// with bytes unread is reset, and the peer may lose what it was sent last. Whether all of that while passed, and
+    /// the peer neither ended nor said anything.
+    pub(crate) fn part(&mut self, clock: &impl time::Clock) -> bool {
         if self.has_failed || self.stream.get_ref().shutdown(Shutdown::Write).is_err() {
-            return;
+            return false;
         }
         let Ok(began) = Instant::now(clock) else {
-            return
+            return false
         };
         for _ in 0..PARTING_READS {
             if !self.is_still_sending(clock, began) {
                 break;
             }
         }
+        match began.elapsed(clock) {
+            Ok(taken) => milliseconds(taken) >= PARTING_MILLISECONDS,
+            Err(_) => false,
+        }
+    }
+
+    /// Whether it has taken longer than a session of use with a peer that answers so often.
+    pub(crate) fn has_dragged(&self, now: Instant) -> bool {
+        has_dragged(milliseconds(self.taken(now)), self.answers)
+    }
+
+    /// How long it has taken.
+    pub(crate) fn taken(&self, now: Instant) -> Duration {
+        now.duration_since(self.began)
     }
 
     /// Whether a byte of the peer comes in what is left of the while that began then.

@@ -3,13 +3,48 @@
 ghost use Rattle.std.specs.Prelude.{◌≡◌, ◌∷◌, ◌++◌, [], None, IsTrue, IfOk};
 ghost use Rattle.hw_io.specs.{Faults.{HasCause}, Files.{Appended}};
 
+use crate::complaints::Voice;
 use crate::wants::count_want;
 use hw_io::{Consumer, Files, IoFault};
 use hw_types::{Bytes, OutOfMemory};
 use std::alloc::Global;
+use std::os::unix::fs::MetadataExt;
+use std::path::Path;
+use std::{fs, rt};
 
 /// The file that takes the values.
 pub const BLOCKS_FILE: &str = "highway.blocks";
+
+/// Whether the file of this name is, or would be, the one that takes the values.
+pub(crate) fn is_values_file<R: rt::Files + Voice>(runtime: &R, name: &str) -> bool {
+    match (
+        fs::metadata(runtime, name),
+        fs::metadata(runtime, BLOCKS_FILE),
+    ) {
+        (Ok(file), Ok(blocks)) => file.dev() == blocks.dev() && file.ino() == blocks.ino(),
+        (Err(_), Err(_)) => is_values_name(runtime, name),
+        _ => false,
+    }
+}
+
+/// Whether a name is another one of the file that takes the values, which isn't there.
+fn is_values_name<R: rt::Files + Voice>(runtime: &R, name: &str) -> bool {
+    let path = Path::new(name);
+    if !path.file_name().is_some_and(|last| last == BLOCKS_FILE) {
+        return false;
+    }
+    let folder = match path.parent() {
+        Some(folder) if !folder.as_str().is_empty() => folder,
+        _ => return true,
+    };
+    match (
+        fs::canonicalize(runtime, folder),
+        fs::canonicalize(runtime, "."),
+    ) {
+        (Ok(folder), Ok(here)) => folder.as_str() == here.as_str(),
+        _ => false,
+    }
+}
 
 /// A consumer that appends the value of each block, and a line feed, to the file `highway.blocks`, which it
 /// makes where it is missing. Its faults are those of appends.

@@ -1,7 +1,8 @@
 //! Connections that came, and who of them is served next.
 ghost use Rattle.std.specs.Prelude.{◌≡◌};
-ghost use Rattle.hw_host.specs.Waiting.{first_speaking, first_suspect, next_of};
+ghost use Rattle.hw_host.specs.Waiting.{first_known, first_speaking, first_suspect, next_of};
 
+use crate::known::Known;
 use crate::suspects::Suspects;
 use std::alloc::{AllocError, Global};
 use std::io::ErrorKind;
@@ -34,8 +35,12 @@ pub(crate) struct Visitor<S> {
 enum Standing {
     /// It said nothing.
     Silent,
-    /// It said a byte, or that it says nothing more.
+    /// It said a byte, or that it says nothing more, and isn't a stranger.
+    Known,
+    /// It did so, and is a stranger, or nobody is known.
     Speaking,
+    /// It did so, and is a stranger, and none is served yet.
+    Resting,
     /// It did so, and its address is suspect.
     Suspect,
     /// It isn't there any more, or was silent for too long.
@@ -43,7 +48,13 @@ enum Standing {
 }
 
 impl Standing {
-    ghost use Rattle.hw_host.specs.Waiting.{is_speaking, is_suspect};
+    ghost use Rattle.hw_host.specs.Waiting.{is_known, is_speaking, is_suspect};
+
+    fn is_known(self) -> bool
+        ensures { result ≡ is_known self }
+    {
+        matches!(self, Standing::Known)
+    }
 
     fn is_speaking(self) -> bool
         ensures { result ≡ is_speaking self }
@@ -60,6 +71,11 @@ impl Standing {
     fn is_there(self) -> bool {
         !matches!(self, Standing::Gone)
     }
+
+    /// Whether one that was looked at is a stranger that waits, or one of whom nothing is known.
+    fn is_strange(self) -> bool {
+        matches!(self, Standing::Speaking | Standing::Resting)
+    }
 }
 
 impl<S: OpenStream + Drop> WaitingRoom<S> {
@@ -75,7 +91,7 @@ impl<S: OpenStream + Drop> WaitingRoom<S> {
     }
 
     /// Lets one more wait, which came now. Where there is no room, the first one goes that was suspect when it was
-    /// looked at last, or else the first one.
+    /// looked at last, or else the first one that was a stranger, or else the first one.
     pub(crate) fn admit(
         &mut self,
         stream: S,
@@ -95,16 +111,24 @@ impl<S: OpenStream + Drop> WaitingRoom<S> {
     }
 
     fn crowd_out(&mut self) {
-        let place = first_suspect(self.visitors.as_slice()).unwrap_or(0);
+        let place = match first_suspect(self.visitors.as_slice()) {
+            Some(place) => place,
+            None => first_strange(self.visitors.as_slice()).unwrap_or(0),
+        };
         if place < self.visitors.len() {
             self.visitors.remove(place);
         }
     }
 
     /// The next one to be served. Those that are gone, or were silent for too long, are dropped.
-    pub(crate) fn next(&mut self, now: Instant, suspects: &Suspects) -> Option<Visitor<S>> {
+    pub(crate) fn next(
+        &mut self,
+        now: Instant,
+        suspects: &Suspects,
+        known: &Known,
+    ) -> Option<Visitor<S>> {
         for visitor in self.visitors.iter_mut() {
-            visitor.standing = standing_of(visitor, now, suspects);
+            visitor.standing = standing_of(visitor, now, suspects, known);
         }
         self.visitors.retain(|visitor| visitor.standing.is_there());
         let place = next_of(self.visitors.as_slice())?;
@@ -120,13 +144,32 @@ impl<S: OpenStream + Drop> WaitingRoom<S> {
 fn next_of<S>(visitors: &[Visitor<S>]) -> Option<usize>
     ensures { result ≡ next_of visitors.now }
 {
-    match first_speaking(visitors) {
+    match first_known(visitors) {
         Some(place) => Some(place),
-        None => first_suspect(visitors),
+        None => match first_speaking(visitors) {
+            Some(place) => Some(place),
+            None => first_suspect(visitors),
+        },
     }
 }
 
-/// The place of the first one that said something and isn't suspect.
+/// The place of the first one that said something and is known.
+fn first_known<S>(visitors: &[Visitor<S>]) -> Option<usize>
+    ensures { result ≡ first_known visitors.now }
+{
+    visitors
+        .iter()
+        .position(|visitor| visitor.standing.is_known())
+}
+
+/// The place of the first one that was a stranger.
+fn first_strange<S>(visitors: &[Visitor<S>]) -> Option<usize> {
+    visitors
+        .iter()
+        .position(|visitor| visitor.standing.is_strange())
+}
+
+/// The place of the first one that said something, isn't known and may be served.
 fn first_speaking<S>(visitors: &[Visitor<S>]) -> Option<usize>
     ensures { result ≡ first_speaking visitors.now }
 {
@@ -145,10 +188,17 @@ fn first_suspect<S>(visitors: &[Visitor<S>]) -> Option<usize>
 }
 
 /// The state of a connection now.
-fn standing_of<S: OpenStream>(visitor: &Visitor<S>, now: Instant, suspects: &Suspects) -> Standing {
+fn standing_of<S: OpenStream>(
+    visitor: &Visitor<S>,
+    now: Instant,
+    suspects: &Suspects,
+    known: &Known,
+) -> Standing {
     let mut first = [0];
     match visitor.stream.peek(&mut first) {
+        Ok(_) if known.is_stranger(visitor.address) && known.is_resting(now) => Standing::Resting,
         Ok(_) if suspects.has(visitor.address, now) => Standing::Suspect,
+        Ok(_) if known.has(visitor.address) => Standing::Known,
         Ok(_) => Standing::Speaking,
         Err(error) if error.kind() == ErrorKind::WouldBlock && is_patient(visitor.since, now) => {
             Standing::Silent

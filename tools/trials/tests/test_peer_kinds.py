@@ -7,7 +7,17 @@ import types
 import unittest
 from unittest import mock
 
-from trials.peer_tries import STRANGERS, Network, Stranger, ask_for_all, have, limit_of, send_slowly, strangers_at
+from trials.peer_tries import (
+    STRANGERS,
+    Network,
+    Stranger,
+    ask_for_all,
+    ask_without_end,
+    have,
+    limit_of,
+    send_slowly,
+    strangers_at,
+)
 
 
 class AtADoor(unittest.TestCase):
@@ -86,8 +96,9 @@ class Kinds(AtADoor):
             "slow-strangers": ("127.0.0.1", 4),
             "trickles-elsewhere": ("127.0.0.2", 1),
             "many-trickles": ("127.0.0.2", 8),
+            "asks-without-end": ("127.0.0.2", 1),
         }
-        self.assertEqual(set(counts), set(STRANGERS))
+        self.assertEqual({*counts, "many-addresses", "one-network"}, set(STRANGERS))
         for kind, (address, count) in counts.items():
             with self.subTest(kind):
                 ended = threading.Event()
@@ -98,6 +109,30 @@ class Kinds(AtADoor):
                     stream.close()
                 self.assertEqual([place for _, place in found], [address] * count)
                 self.assertEqual(len(strangers), count)
+
+    def test_many_addresses_are_all_others(self):
+        ended, network = threading.Event(), types.SimpleNamespace(port=self.port)
+        strangers_at("many-addresses", network, ended)
+        found = [self.accepted() for _ in range(20)]
+        ended.set()
+        for stream, _ in found:
+            stream.close()
+        self.assertEqual({place for _, place in found}, {f"127.0.0.{number}" for number in range(2, 22)})
+
+    def test_strangers_of_one_network_come_from_its_addresses(self):
+        network = types.SimpleNamespace(port=self.port, host="::1")
+        with mock.patch("subprocess.run") as run, mock.patch.object(Stranger, "come_on"):
+            strangers = strangers_at("one-network", network, threading.Event())
+        self.assertEqual([stranger.source for stranger in strangers], [f"fd00:77:0:1::{it}:" for it in range(1, 5)])
+        self.assertIn("fd00:77:0:1::/64", run.call_args[0][0])
+
+    def test_who_asks_without_end_asks_again_while_it_is_answered(self):
+        self.come(lambda stream, ended: ask_without_end(stream, ended, bytes(32)))
+        stream, _ = self.accepted()
+        self.assertEqual(self.heard(stream, 37), b"\0\0\0\x21\x01" + bytes(32))
+        for _ in range(3):
+            self.assertEqual(self.heard(stream, 13), have(0))
+            stream.sendall(bytes(4096))
 
     def test_what_each_kind_may_cost(self):
         limits = {kind: limit_of(kind) for kind in ("silent-connections", "resets", *STRANGERS)}
@@ -110,6 +145,9 @@ class Kinds(AtADoor):
                 "trickles-elsewhere": 0.2,
                 "many-trickles": 1 / 3,
                 "slow-strangers": 0.2,
+                "many-addresses": 1 / 3,
+                "one-network": 0.2,
+                "asks-without-end": 0.2,
             },
         )
 
