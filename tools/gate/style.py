@@ -3,7 +3,6 @@
 
 - Each file of Python stands as `black` lays it out, by tools/pyproject.toml; --write lays them out.
 - `pyflakes` finds nothing in them, and `shellcheck` nothing in the scripts.
-- No line has more than 120 columns.
 
 What isn't on this machine is left out, with a word (Debian: black, pyflakes3, shellcheck). The status is 1 where
 something was found."""
@@ -15,7 +14,6 @@ import sys
 from pathlib import Path
 
 ROOT = Path(__file__).resolve().parents[2]
-WIDTH = 120
 
 
 def called(words):
@@ -30,14 +28,6 @@ def first_of(names):
     if not found:
         print(f"style: skipped, since there is no {' or '.join(names)} here")
     return found
-
-
-def wide_lines(files):
-    """Each line that is too long, with its place."""
-    for file in files:
-        for number, line in enumerate(file.read_text(encoding="utf-8").splitlines(), 1):
-            if len(line) > WIDTH:
-                yield f"{file.relative_to(ROOT)}:{number}: has {len(line)} columns, above {WIDTH}"
 
 
 def main(words=None):
@@ -56,7 +46,6 @@ def main(words=None):
         found += called([pyflakes, *pythons])
     if shellcheck:
         found += called([shellcheck, "--severity", "warning", *scripts])
-    found += wide_lines([*pythons, *scripts])
     for it in found:
         print(it)
     print(f"style: {len(found)} things to mend" if found else "style: as it should be")

@@ -1,5 +1,6 @@
 -- Random journals with evidence, endorsements and refusals, and what they say.
--- The values are those of another reading of the definitions, written apart from them; tools/refl_journals.py wrote this.
+-- The values are those of another reading of the definitions, written apart from them. The program that drew these
+-- journals and wrote this isn't kept.
 use Rattle.std.specs.Prelude.{◌≡◌, true, List, [], ◌∷◌, Some, None, Ok, Err}
 use Rattle.hw_types.specs.declared.unit.Obs.TheVariants.{Absent, Correct, Faulty}
 use Rattle.hw_types.specs.declared.unit.WireUnit.{WireUnit}
