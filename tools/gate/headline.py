@@ -1,12 +1,13 @@
 #!/usr/bin/env python3
 """Writes docs/HEADLINE.md, or holds it against the definitions: headline.py [--check] [ROOT]
 
-The page lists the definitions that the clauses of `highway` on `replay`, `explain` and `audit` stand on. It is made
-from the files of definitions, `crates/*/specs/**/*.antt`: a definition uses each other one that its text names.
+The page lists the definitions that two clauses of `highway` stand on: what `replay`, `explain` and `audit` write of
+logs. It is made from the files of definitions, `crates/*/specs/**/*.antt`: a definition uses each other one that its
+text names.
 
-- ROOTS are what the clauses cite of the three commands. Of a definition that tells all commands, ONLY says which lines
-  are theirs.
+- ROOTS are what the clauses cite.
 - INSTEAD names what is worked out, the law over it, and the definitions that a reader believes in its place.
+- PARTS are the parts of the page, each with the files whose definitions it has.
 
 With --check nothing is written; the status is 1 where the page isn't the one that would be, or where it has more
 definitions or lines than a reader can be asked to believe. It is 2 where the definitions can't be read."""
@@ -18,19 +19,16 @@ from dataclasses import dataclass, field
 from pathlib import Path
 
 PAGE = "docs/HEADLINE.md"
-MOST_DEFINITIONS, MOST_LINES = 400, 1250
+MOST_DEFINITIONS, MOST_LINES, MOST_OF_PROTOCOL = 300, 900, 650
 WIDTH = 120
 
-# What the clauses `said`, `text` and `line`, and `conflict`, cite.
-ROOTS = ("hw_commands.Program.run_of", "hw_commands.Conflict.ReportsConflict")
-
-# Lines of definitions that tell all commands: those of the three, and where the words are no command.
-ONLY = {
-    "hw_commands.Program.request_said": r" None = | \(Some \((Replay|Explain|Audit) ",
-    "hw_commands.Commands.of_words": r" of_few command ",
-    "hw_commands.Commands.of_few": r" None$| of_one | of_two ",
-    "hw_commands.Commands.of_two": r'"audit"| None$',
-}
+# What the clauses `reports` and `reported` cite.
+ROOTS = (
+    "hw_commands.Run.IsDone",
+    "hw_theorem.Reports.HoldBytes",
+    "hw_theorem.Reports.CanBeReported",
+    "hw_theorem.Reports.SaysOfLogs",
+)
 
 
 @dataclass
@@ -40,21 +38,38 @@ class Instead:
     law: str
     crate: str
     believed: tuple
+    words: str = ""
 
 
 INSTEAD = {
-    "hw_safety.Decided.decisions_of": Instead("safety_decides", "hw_safety", ("hw_types.Decisions.AreDecisions",)),
-    "hw_explain.Explain.explained_text": Instead(
-        "committees_are_greatest",
-        "hw_explain",
-        ("hw_types.Decisions.AreDecisions", "hw_explain.Greatest.IsGreatestOf", "hw_explain.Greatest.explained_with"),
+    "hw_types.Votes.fork_over": Instead(
+        "lawful_choice",
+        "hw_page",
+        ("hw_page.Choice.ChoosesByWalk",),
+        "over what is below a panorama in a lawful graph, as what a journal settles is",
     ),
-    "hw_commands.Audited.audit_ended": Instead(
-        "an_audit_tells_the_verdict",
-        "hw_commands",
-        ("hw_safety.Verdicts.IsVerdict", "hw_audit.First.ShowsFirstClash", "hw_commands.Audited.verdict_ended"),
-    ),
+    "hw_types.Rounds.first_above": Instead("a_leader_is_found", "hw_theorem", ("hw_theorem.Drawn.IsFirstAbove",)),
+    "hw_types.Same.unit_eq": Instead("equal_values_are_told", "hw_theorem", (), "the two units are equal"),
+    "hw_types.Settled.need_eq": Instead("equal_values_are_told", "hw_theorem", (), "the two needs are equal"),
 }
+
+
+@dataclass
+class Part:
+    """A part of the page: its heading, and what the names of its files begin with; the first has all others."""
+
+    title: str
+    files: tuple = ()
+
+
+PARTS = (
+    Part("The protocol: graph, rules, answers, choice, summits, decisions"),
+    Part("Bytes: units, configurations and logs", ("hw_types.Spelling", "hw_types.Limits", "hw_types.Real", "hw_codec.", "hw_log.")),
+    Part(
+        "Logs, and what is printed of them",
+        ("hw_text.", "hw_explain.", "hw_audit.", "hw_commands.", "hw_replay.", "hw_theorem.Counts", "hw_theorem.Logs", "hw_theorem.Reports"),
+    ),
+)
 
 # What is said of definitions whose own comment needs the head of their part of the file.
 SAID = {
@@ -62,19 +77,29 @@ SAID = {
     "hw_types.Rules.state_rule": "the first rule that a unit breaks over the units below it",
 }
 
-HEAD = """# The definitions that `replay`, `explain` and `audit` depend on
+HEAD = """# What `replay`, `explain` and `audit` write of logs: the definitions
 
-`tools/gate/headline.py` makes this page from the definitions, and the gate checks that it is up to date. Who believes
-these {count} definitions ({lines} lines without comments) knows what `highway` promises of the three commands. That is the
-text and the status which it gives of the bytes of the logs (clauses `said`, `text` and `line`), and what status 3 says
-of two logs (clause `conflict`). Each uses those above it. Begin at the top; or read the last three sections
-first, and look up what they name.
+`tools/gate/headline.py` makes this page from the definitions, and the gate checks that it is up to date. Two clauses of
+`highway` (hw_program) say what these three commands write with status 0 or 3. Who believes these {count} definitions
+({lines} lines without comments) knows what the two promise:
 
-Not listed: what the clauses say of failing reads and writes, of memory that runs out, and of consumers; the other
-commands; {types} types of the code, as `Digest`; {words} words of the toolchain's library, as `filter`.
-[DEFINITIONS.md](DEFINITIONS.md) explains the protocol's part with examples, and how to read a definition.
+- `reports`: with status 0 or 3, what was written is `SaysOfLogs` of the words and of the bytes of the files;
+- `reported`: where the words name logs that can be replayed, and for `audit` compared (`CanBeReported`), the status is
+  0 or 3 if no read and no write failed, or 7 (out of memory).
 
-Three definitions are worked out, and a law says what they are. In their place this page has the definitions of the law.
+**The premise.** Both hold of an outside that tells what its files hold and what its output took (`tells`), and
+`reports` where files hold bytes (`HoldBytes`). The files of the built program tell nothing, so of them the clauses say
+nothing by themselves. [PROVED.md](PROVED.md#the-program) has the argument why they hold there too.
+
+Not listed: the other statuses, whose texts are worked out (clauses `said` and `line`, by `run_of`). Failing reads and
+writes, memory that runs out, and consumers. The other commands. And {types} types of the code, as `Digest`, and {words} words
+of the toolchain's library, as `filter`. [DEFINITIONS.md](DEFINITIONS.md) explains the protocol's part with examples,
+and how to read a definition. [THEOREM.md](THEOREM.md) has the theorems in words.
+
+{parts}
+In each part a definition uses those above it, or of parts above; what it takes from a part below is named there.
+
+Some definitions are worked out, and a law says what they are. In their place this page has the words of the law.
 
 | Worked out | The law | Believed in its place |
 |---|---|---|
@@ -130,11 +155,8 @@ class Definitions:
         if full in INSTEAD:
             return list(INSTEAD[full].believed)
         own = self.by_name[full]
-        text = own.text
-        if full in ONLY:
-            text = "\n".join(row for row in text.splitlines() if re.search(ONLY[full], row) or ":" in row)
         found = []
-        for token in TOKEN.findall(text):
+        for token in TOKEN.findall(own.text):
             name = None if token.startswith(".") else self.named(own.module, token)
             if name and name != full and name not in found:
                 found.append(name)
@@ -203,8 +225,9 @@ def definitions_of(root):
 
 
 def closure(found, roots):
-    """What the roots stand on, themselves included, each behind all that it names; and the other names that are met."""
-    ordered, others, begun = [], set(), set()
+    """What the roots stand on, themselves included, each behind all that it names; the other names that are met; and
+    what is met that is worked out."""
+    ordered, others, begun, met = [], set(), set(), []
 
     def visit(full):
         if full in begun:
@@ -215,14 +238,13 @@ def closure(found, roots):
             return
         for name in found.below(full):
             visit(name)
-        if full not in INSTEAD:
-            ordered.append(full)
+        (met if full in INSTEAD else ordered).append(full)
 
     for root in roots:
         if root not in found.by_name:
             raise HeadlineError(f"there is no definition {root}")
         visit(root)
-    return ordered, others
+    return ordered, others, met
 
 
 def believed_below(found, full):
@@ -241,7 +263,7 @@ def by_files(found, ordered):
         files.setdefault(found.by_name[full].module, []).append(full)
 
     def visit(module):
-        if module in begun:
+        if module in begun or module not in files:
             return
         begun.add(module)
         for full in files[module]:
@@ -272,24 +294,67 @@ def in_plain_words(full, it):
     return SAID.get(full, it.comment).rstrip(".").replace("|", "\\|")
 
 
+def part_of(module):
+    """The number of the part that a file belongs to."""
+    return next((at for at, part in enumerate(PARTS) if module.startswith(part.files)), 0)
+
+
+def in_parts(found, ordered):
+    """For each part its definitions by file, and what they take from parts below."""
+    parts = [[full for full in ordered if part_of(found.by_name[full].module) == at] for at in range(len(PARTS))]
+    for at, names in enumerate(parts):
+        later = {below for full in names for below in believed_below(found, full) if part_of(found.by_name[below].module) > at}
+        yield PARTS[at], by_files(found, names), sorted(later)
+
+
+def lines_of(found, names):
+    """How many lines these definitions have."""
+    return sum(found.by_name[full].size() for full in names)
+
+
+def sizes_of(found, ordered):
+    """The table of the parts, and how many lines the first of them has."""
+    rows, lines = ["| Part | Definitions | Lines |\n|---|---|---|\n"], []
+    for at, part in enumerate(PARTS):
+        names = [full for full in ordered if part_of(found.by_name[full].module) == at]
+        lines.append(lines_of(found, names))
+        rows.append(f"| {at + 1}. {part.title} | {len(names)} | {lines[-1]} |\n")
+    return "".join(rows), lines[0]
+
+
+def rows_of_instead(found, met):
+    """The rows on what is worked out, of the definitions that were met."""
+    for full in met:
+        it = INSTEAD[full]
+        named = ", ".join([*(f"`{name.split('.')[-1]}`" for name in it.believed), *([it.words] if it.words else [])])
+        yield f"| `{full.split('.')[-1]}` | `{it.law}` ({it.crate}) | {named} |\n"
+
+
 def page_of(found):
-    """The page, and how many definitions and lines it asks a reader to believe."""
-    ordered, others = closure(found, ROOTS)
+    """The page, how many definitions and lines it asks a reader to believe, and how many of these are the protocol's."""
+    ordered, others, met = closure(found, ROOTS)
     types, words = types_and_words(others)
-    lines = sum(found.by_name[full].size() for full in ordered)
-    parts = [HEAD.format(count=len(ordered), lines=lines, types=types, words=words)]
-    for full, it in INSTEAD.items():
-        named = ", ".join(f"`{name.split('.')[-1]}`" for name in it.believed)
-        parts.append(f"| `{full.split('.')[-1]}` | `{it.law}` ({it.crate}) | {named} |\n")
-    for module, names in by_files(found, ordered):
-        path = found.by_name[names[0]].path
-        parts.append(
-            f"\n## [{path.removeprefix('crates/')}](../{path})\n\n| Line | Definition | In plain words |\n|---|---|---|\n"
-        )
-        for full in names:
-            it = found.by_name[full]
-            parts.append(f"| {it.line} | `{it.name}` | {in_plain_words(full, it)} |\n")
-    return "".join(parts), len(ordered), lines
+    lines = lines_of(found, ordered)
+    table, protocol = sizes_of(found, ordered)
+    texts = [HEAD.format(count=len(ordered), lines=lines, types=types, words=words, parts=table)]
+    texts.extend(rows_of_instead(found, met))
+    for at, (part, files, later) in enumerate(in_parts(found, ordered)):
+        texts.append(f"\n## {at + 1}. {part.title}\n")
+        if later:
+            texts.append("\nFrom parts below: " + ", ".join(f"`{full.split('.')[-1]}`" for full in later) + ".\n")
+        for _, names in files:
+            texts.append(rows_of_file(found, names))
+    return "".join(texts), len(ordered), lines, protocol
+
+
+def rows_of_file(found, names):
+    """The definitions of one file, as a table under its name."""
+    path = found.by_name[names[0]].path
+    rows = [f"\n### [{path.removeprefix('crates/')}](../{path})\n\n| Line | Definition | In plain words |\n|---|---|---|\n"]
+    for full in names:
+        it = found.by_name[full]
+        rows.append(f"| {it.line} | `{it.name}` | {in_plain_words(full, it)} |\n")
+    return "".join(rows)
 
 
 def main(words=None):
@@ -299,19 +364,19 @@ def main(words=None):
     asked = parser.parse_args(words)
     root = Path(asked.root)
     try:
-        text, count, lines = page_of(definitions_of(root))
+        text, count, lines, protocol = page_of(definitions_of(root))
     except (HeadlineError, OSError) as fault:
         print(f"headline: {fault}", file=sys.stderr)
         return 2
-    print(f"headline: {count} definitions, {lines} lines")
+    print(f"headline: {count} definitions, {lines} lines, of which {protocol} are the protocol's")
     page = root / PAGE
     if not asked.check:
         page.write_text(text, encoding="utf-8")
     elif not page.is_file() or page.read_text(encoding="utf-8") != text:
         print(f"{PAGE} isn't what the definitions say: run tools/gate/headline.py")
         return 1
-    if count > MOST_DEFINITIONS or lines > MOST_LINES:
-        print(f"headline: more than {MOST_DEFINITIONS} definitions or {MOST_LINES} lines")
+    if count > MOST_DEFINITIONS or lines > MOST_LINES or protocol > MOST_OF_PROTOCOL:
+        print(f"headline: more than {MOST_DEFINITIONS} definitions, {MOST_LINES} lines or {MOST_OF_PROTOCOL} of the protocol")
         return 1
     return 0
 

@@ -4,3 +4,4 @@ pub mod NodeLaws
 pub mod FinishLaws
 pub mod CallLaws
 pub mod LogLaws
+pub mod ReportLaws

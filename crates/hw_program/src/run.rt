@@ -13,6 +13,7 @@ ghost use Rattle.hw_commands.specs.Conflict.{ReportsConflict, ReportsEraConflict
 ghost use Rattle.hw_commands.specs.Fed.{CallsNone, ConsumersAfter, IsTextOf};
 ghost use Rattle.hw_commands.specs.Shown.{IsShown, IfChecks, ShowsCertificate, ContradictsCertificate};
 ghost use Rattle.hw_commands.specs.Run.{IsStatus, IsWorkedStatus, IsServiceStatus, IsDone, IsSaid, IsRefusal, WritesLine, WritesText, WritesPrefix, EndsWithoutMemory, EndsAppending};
+ghost use Rattle.hw_theorem.specs.Reports.{HoldBytes, CanBeReported, SaysOfLogs};
 ghost use Rattle.hw_program.specs.Services.{service_of, names_in, IsWorkedOut, IsNoCommand, UsesNoClock, maker_in};
 ghost use Rattle.hw_program.specs.Serving.{service};
 ghost use Rattle.hw_program.specs.Served.{around, counts, output, RunsNode, CanRun, IsRunEnd, AsksNoValidator, OnlyLogChanges};
@@ -85,6 +86,11 @@ pub fn highway<F: Files, S: Sink, C: Clock, D: Door>(
     // allowed to write a log anew, that is done.
     ensures complete { IsWorkedOut words.now → IsTrue F.tells → (Rose (F.read_faults files.old) (F.read_faults files.new) → ⊥) → (Rose (S.faults out.old) (S.faults out.new) → ⊥) → OnlyReads (request_of words.now) ⊎ (Rose (F.append_faults files.old) (F.append_faults files.new) → ⊥) → (result ≡ (run_of words.now (F.held files.old)).status) ⊎ (result ≡ 7) }
     ensures allowed { IsTrue F.tells → IsAllowed (request_of words.now) (F.held files.old) → (Rose (F.read_faults files.old) (F.read_faults files.new) → ⊥) → (Rose (S.faults out.old) (S.faults out.new) → ⊥) → (Rose (F.append_faults files.old) (F.append_faults files.new) → ⊥) → (result ≡ 0) ⊎ (result ≡ 7) }
+
+    // What `replay`, `explain` and `audit` write of logs with status 0 or 3, in words of the logs. Where logs can be
+    // replayed, and two of them compared, and no count rose, the status is one of these.
+    ensures reports { IsTrue F.tells → HoldBytes (F.held files.old) → IsDone result → SaysOfLogs words.now (F.held files.old) result (S.taken out.old) (S.taken out.new) }
+    ensures reported { IsTrue F.tells → CanBeReported words.now (F.held files.old) → (Rose (F.read_faults files.old) (F.read_faults files.new) → ⊥) → (Rose (S.faults out.old) (S.faults out.new) → ⊥) → IsDone result ⊎ (result ≡ 7) }
 
     // Where two logs, or a log and a certificate, report conflicting final blocks, the audit names culprits, each by
     // two signed units, and they weigh more than the threshold.

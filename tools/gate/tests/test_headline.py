@@ -63,7 +63,8 @@ class Headline(unittest.TestCase):
         self.put("crates/hw_high/specs/High.antt", HIGH)
         (self.root / "docs").mkdir()
         instead = {"hw_low.Low.worked": headline.Instead("it_is_so", "hw_high", ("hw_high.High.IsSo",))}
-        for name, value in {"ROOTS": ("hw_high.High.said",), "ONLY": {}, "INSTEAD": instead, "SAID": {}}.items():
+        parts = (headline.Part("Below"), headline.Part("Above", ("hw_high.",)))
+        for name, value in {"ROOTS": ("hw_high.High.said",), "PARTS": parts, "INSTEAD": instead, "SAID": {}}.items():
             patch = mock.patch.object(headline, name, value)
             patch.start()
             self.addCleanup(patch.stop)
@@ -94,9 +95,20 @@ class Headline(unittest.TestCase):
             self.names(), [low + "Node", low + "Request", low + ">>=", low + "beside", high + "IsSo", high + "said"]
         )
 
-    def test_lines_of_other_commands_are_left_out(self):
-        with mock.patch.object(headline, "ONLY", {"hw_high.High.said": r"\(Replay "}):
-            self.assertNotIn("hw_low.Low.beside", self.names())
+    def test_parts_have_sizes_and_say_what_they_take_from_below(self):
+        self.assertEqual(self.ran()[0], 0)
+        self.assertIn("| 1. Below | 4 | 9 |\n| 2. Above | 2 | 5 |\n", self.page())
+        self.assertNotIn("From parts below", self.page())
+        with mock.patch.object(headline, "PARTS", (headline.Part("High"), headline.Part("Low", ("hw_low.",)))):
+            self.ran()
+        self.assertIn("## 1. High\n\nFrom parts below: `>>=`, `Node`, `Request`, `beside`.\n", self.page())
+
+    def test_what_is_worked_out_is_told_where_it_is_met(self):
+        never = headline.Instead("never", "hw_high", (), "nothing")
+        with mock.patch.dict(headline.INSTEAD, {"hw_low.Low.unused": never, "hw_low.Low.beside": headline.Instead("law", "hw_low", (), "one number")}):
+            self.ran()
+        self.assertIn("| `beside` | `law` (hw_low) | one number |", self.page())
+        self.assertNotIn("never", self.page())
 
     def test_what_is_worked_out_is_followed_where_no_law_replaces_it(self):
         with mock.patch.object(headline, "INSTEAD", {}):
@@ -104,8 +116,8 @@ class Headline(unittest.TestCase):
             self.assertNotIn("hw_high.High.IsSo", self.names())
 
     def test_the_page_has_place_and_plain_words(self):
-        self.assertEqual(self.ran(), (0, "headline: 6 definitions, 14 lines\n"))
-        self.assertIn("## [hw_low/specs/Low.antt](../crates/hw_low/specs/Low.antt)", self.page())
+        self.assertEqual(self.ran(), (0, "headline: 6 definitions, 14 lines, of which 9 are the protocol's\n"))
+        self.assertIn("### [hw_low/specs/Low.antt](../crates/hw_low/specs/Low.antt)", self.page())
         self.assertIn("| 6 | `Node` | a unit |", self.page())
         self.assertIn("| 18 | `>>=` | first this, then that |", self.page())
         self.assertIn("| `worked` | `it_is_so` (hw_high) | `IsSo` |", self.page())
@@ -132,6 +144,8 @@ class Headline(unittest.TestCase):
         with mock.patch.object(headline, "MOST_DEFINITIONS", 5):
             self.assertEqual(self.ran()[0], 1)
         with mock.patch.object(headline, "MOST_LINES", 13):
+            self.assertEqual(self.ran()[0], 1)
+        with mock.patch.object(headline, "MOST_OF_PROTOCOL", 8):
             self.assertEqual(self.ran()[0], 1)
 
     def test_a_root_that_is_gone(self):
