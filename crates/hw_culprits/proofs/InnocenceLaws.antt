@@ -19,7 +19,7 @@ use Rattle.hw_safety.specs.Verdicts.{culprit_weight, IsVerdict}
 use Rattle.hw_safety.proofs.ApartLaws.{conflict}
 use Rattle.hw_safety.proofs.ShownLaws.{found}
 use Rattle.hw_agree.specs.Agree.{IsNoConflict}
-use Rattle.hw_culprits.specs.Innocence.{SignsOnce, weight_of_others, WhoSignsOnceIsNotNamed, WhoSignOnceAgree}
+use Rattle.hw_culprits.specs.Innocence.{SignsOnce, weight_of_others, WhoSignsOnceIsNotNamed, CulpritsAreOthers, WhoSignOnceAgree}
 use Rattle.hw_culprits.proofs.PairLaws.{culprit_shows}
 
 -- a validator that is named has a culprit of its own
@@ -42,20 +42,19 @@ not_named s left right me once m =
     not_shown s left right c.0 (all_among (IsShown s left right) cs.0 cs.1.each c.0 c.1) (subst (SignsOnce (left ++ right)) (sym c.2) once)
 
 -- so the culprits are among the others
-light : (s : Setting) (left right : List Vertex) (honest : ℕ → Bool) → ((v : ℕ) → honest v ≡ true → SignsOnce (left ++ right) v)
-    → weight_of s.config.weights (λ v. list_any (λ w. w == v) (culprits_of s left right)) ≤ weight_of_others s honest
+pub light : CulpritsAreOthers
+unfolding culprit_weight
 light s left right honest once =
     weight_of_le s.config.weights (λ v. list_any (λ w. w == v) (culprits_of s left right)) (λ v. not (honest v)) (λ v h.
-        let w = some_of (λ w. w == v) (culprits_of s left right) h in
-        let is = subst (λ z. Among z (culprits_of s left right)) (eqb-true _ _ w.2) w.1 in
-        decide (honest v) (λ e. not_named s left right v (once v e) is))
+    let w = some_of (λ w. w == v) (culprits_of s left right) h in
+    let is = subst (λ z. Among z (culprits_of s left right)) (eqb-true _ _ w.2) w.1 in
+    decide (honest v) (λ e. not_named s left right v (once v e) is))
   where
     decide : (b : Bool) → (b ≡ true → ⊥) → not b ≡ true
     decide true never = absurd (never refl)
     decide false never = refl
 
 pub agree : WhoSignOnceAgree
-unfolding culprit_weight
 agree s left right honest once few dl dr decided_l decided_r (verdict.Agree common) v = tt
 agree s left right honest once few dl dr decided_l decided_r (verdict.Clash a b) v = tt
 agree s left right honest once few dl dr decided_l decided_r (verdict.Conflict height a b culprits weight) v =

@@ -10,7 +10,7 @@ use Rattle.hw_types.specs.Journal.{Setting, journal_of}
 use Rattle.hw_types.specs.Decisions.{AreDecisions}
 use Rattle.hw_types.specs.Culprits.{culprits_of}
 use Rattle.hw_safety.specs.declared.verdict.Verdict.{Verdict}
-use Rattle.hw_safety.specs.Verdicts.{held_in, IsVerdict}
+use Rattle.hw_safety.specs.Verdicts.{held_in, culprit_weight, IsVerdict}
 use Rattle.hw_agree.specs.Agree.{IsNoConflict}
 
 -- any two units by the validator that stand there and have one number are one unit, inside evidence or not
@@ -26,8 +26,13 @@ WhoSignsOnceIsNotNamed = (s : Setting) (left right : List Vertex) (me : ℕ) →
 abbrev pub weight_of_others : Setting → (ℕ → Bool) → ℕ
 weight_of_others s honest = weight_of s.config.weights (λ v. not (honest v))
 
--- Let these be such, whatever their numbers, and let the others weigh no more than the threshold. Then the verdict on
--- the two is no conflict: they agree, or units of theirs clash.
+-- Where these are such, the culprits weigh no more than all others.
+abbrev pub CulpritsAreOthers : Type 0
+CulpritsAreOthers = (s : Setting) (left right : List Vertex) (honest : ℕ → Bool)
+    → ((v : ℕ) → honest v ≡ true → SignsOnce (left ++ right) v) → culprit_weight s left right ≤ weight_of_others s honest
+
+-- Let the others weigh no more than the threshold, whatever the numbers of these. Then the verdict on two journals that
+-- deliveries made is no conflict: they agree, or units of theirs clash.
 abbrev pub WhoSignOnceAgree : Type 0
 WhoSignOnceAgree = (s : Setting) (left right : List (Vertex × Bool)) (honest : ℕ → Bool)
     → ((v : ℕ) → honest v ≡ true → SignsOnce (journal_of s left ++ journal_of s right) v) → weight_of_others s honest ≤ s.config.ftt

@@ -1,0 +1,4 @@
+pub mod LifeLaws
+pub mod LogLaws
+pub mod MemberLaws
+pub mod ReportLaws

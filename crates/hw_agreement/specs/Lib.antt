@@ -1,0 +1,4 @@
+pub mod Lives
+pub mod Logs
+pub mod Members
+pub mod Reports
