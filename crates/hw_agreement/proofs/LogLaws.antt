@@ -36,7 +36,7 @@ use Rattle.hw_agreement.proofs.LifeLaws.{hosts_agree, at_sound, at_ready}
 
 -- ---- what was replayed, deliveries made
 
-of_file : Option Config → Word → Option (List ℕ) → Part Taken
+abbrev of_file : Option Config → Word → Option (List ℕ) → Part Taken
 of_file wanted name file = elim file as (λ z. Part (List ℕ)) [ None ↦ Err read_fault_ended | Some bytes ↦ Ok bytes ] >>= λ bytes. or_stopped name (replay_of wanted bytes)
 
 stopped : (wanted : Option Config) (name : Word) (bytes : List ℕ) (t : Taken) (r : Result Taken StartFault) → replay_of wanted bytes ≡ r → or_stopped name r ≡ Ok t → replay_of wanted bytes ≡ Ok t

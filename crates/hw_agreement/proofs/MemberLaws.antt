@@ -12,7 +12,6 @@ use Rattle.hw_types.specs.Culprits.{signed_in, culprits_of}
 use Rattle.hw_types.proofs.EntryLaws.{append_cases}
 use Rattle.hw_safety.specs.Verdicts.{held_in}
 use Rattle.hw_codec.specs.Ranges.{ConfigInRange}
-use Rattle.hw_honest.proofs.SimulationLaws.{from_flat}
 use Rattle.hw_log.specs.Log.{header_bytes}
 use Rattle.hw_session.specs.Node.{IsSound}
 use Rattle.hw_session.specs.Standing.{Standing}
@@ -26,6 +25,16 @@ use Rattle.hw_agreement.specs.Lives.{Life, HasLived, AreHonest}
 use Rattle.hw_agreement.specs.Members.{LivesBegin, OwnJournalsAreLived, copies_of, audit_words, CopiesAreThere, OneIsHeavy, one_of_three, z0, left_journal, right_journal, FirstIsFaulty, new_of_three}
 use Rattle.hw_agreement.proofs.LogLaws.{lives_agree}
 
+-- ---- what a journal holds
+
+-- a unit that a journal holds is of one of its vertices
+from_flat : (x : SignedUnit) (vs : List Vertex) → Among x (held_in vs) → (v : Vertex) × Among v vs × Among x (signed_in v)
+from_flat x [] m = absurd m
+from_flat x (v ∷ vs) m = elim (append_cases x (signed_in v) (held_in vs) m) [
+  | inl k ↦ (v, inl refl, k)
+  | inr k ↦ (let rest = from_flat x vs k in (rest.0, inr rest.1, rest.2))
+]
+
 -- ---- lives
 
 pub lives_begin : LivesBegin
@@ -37,7 +46,7 @@ pub own_lived : OwnJournalsAreLived
 own_lived me life b m = record {
   life = life;
   own = λ x h by.
-      let v = from_flat signed_in x b.node.core.journal h in
+      let v = from_flat x b.node.core.journal h in
       (b, m, (v.0, inl v.1, x, v.2, refl));
 }
 
@@ -54,7 +63,7 @@ asked = refl
 -- what two copies of a journal hold, the journal holds
 twice : (journal : List Vertex) (x : SignedUnit) → Among x (held_in (journal ++ journal)) → Among x (held_in journal)
 twice journal x m =
-    let v = from_flat signed_in x (journal ++ journal) m in
+    let v = from_flat x (journal ++ journal) m in
     elim (append_cases v.0 journal journal v.1) [ inl k ↦ to_flat journal v.0 k v.2 | inr k ↦ to_flat journal v.0 k v.2 ]
   where
     front : (ys zs : List SignedUnit) → Among x ys → Among x (ys ++ zs)

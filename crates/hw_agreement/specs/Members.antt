@@ -71,7 +71,7 @@ short = in_short one_of_three
 
 -- another first unit of validator 0
 abbrev pub z0 : WireUnit
-z0 = unit 0 0 16 nothing (Some (122 ∷ []))
+z0 = unit 0 0 17 nothing (Some (122 ∷ []))
 
 -- the one journal has both of its units in an evidence, the other has one of them
 abbrev pub left_journal : List Vertex

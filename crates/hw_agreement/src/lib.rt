@@ -7,4 +7,4 @@
 
 mod laws;
 
-pub use laws::{hosts_agree, hosts_are_there, logs_agree, reports_accuse_rightly};
+pub use laws::{hosts_agree, hosts_are_there, logs_agree, reports_accuse_rightly, runs_are_lives};
