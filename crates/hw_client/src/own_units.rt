@@ -35,10 +35,11 @@ fn is_no_new(
     requires { Fits signed.now.unit }
     ensures { IfOk result (λ known. IsTrue known ↔ (signed.now.unit.creator ≡ me → Among (named (setting_of core.now.config) signed.now.unit) (units_by (setting_of core.now.config) core.now.journal me))) }
 {
-    if signed.unit.creator != me {
-        return Ok(true);
+    if signed.unit.creator == me {
+        has_unit(alloc, core, &signed.unit)
+    } else {
+        Ok(true)
     }
-    has_unit(alloc, core, &signed.unit)
 }
 
 /// Whether the vertex brings no new unit by the validator, by itself or inside evidence. That is what the law on restart
