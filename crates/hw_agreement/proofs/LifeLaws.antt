@@ -1,5 +1,5 @@
 -- Validators that lived through stops and starts are no culprits, and agree.
-use Rattle.std.proofs.Common.{◌≡◌, ℕ, Bool, true, List, [], ◌∷◌, ◌++◌, inl, inr, sym, ap, subst, ◌∙◌}
+use Rattle.std.proofs.Common.{◌≡◌, ℕ, List, [], ◌∷◌, ◌++◌, inl, inr, sym, ap, subst, ◌∙◌}
 use Rattle.hw_types.specs.declared.unit.WireUnit.{WireUnit}
 use Rattle.hw_types.specs.Below.{Among}
 use Rattle.hw_types.specs.Journal.{journal_of}
@@ -18,8 +18,8 @@ signs_once journal me lived x y m n by also number =
     let a = p.2 in
     let b = q.2 in
     let one : a.2.unit ≡ b.2.unit = calls_apart me l.first l.more l.validator l.sound l.ready l.calls a.0 b.0 (p.0, p.1, a.1) (q.0, q.1, b.1) a.2 b.2 a.3 b.3
-          (ap (λ (u : WireUnit). u.creator) a.4 ∙ by) (ap (λ (u : WireUnit). u.creator) b.4 ∙ also)
-          (ap (λ (u : WireUnit). u.seq) a.4 ∙ number ∙ ap (λ (u : WireUnit). u.seq) (sym b.4)) in
+    (ap (λ (u : WireUnit). u.creator) a.4 ∙ by) (ap (λ (u : WireUnit). u.creator) b.4 ∙ also)
+    (ap (λ (u : WireUnit). u.seq) a.4 ∙ number ∙ ap (λ (u : WireUnit). u.seq) (sym b.4)) in
     sym a.4 ∙ one ∙ b.4
 
 pub no_innocent : NoInnocentIsNamed

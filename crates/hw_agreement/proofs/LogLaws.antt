@@ -2,7 +2,6 @@
 use Rattle.std.proofs.Common.{◌≡◌, ◌⊎◌, ℕ, inl, inr, Bool, true, false, cond, List, ◌++◌, Option, Some, None, Result, Ok, Err, refl, sym, ap, subst, ◌∙◌}
 use Rattle.hw_types.specs.declared.config.Config.{Config}
 use Rattle.hw_types.specs.declared.unit.Vertex.{Vertex}
-use Rattle.hw_types.specs.declared.answers.Decision.{Decision}
 use Rattle.hw_types.specs.Journal.{Setting, journal_of}
 use Rattle.hw_types.specs.Decisions.{AreDecisions}
 use Rattle.hw_types.specs.Real.{CoreState, setting_of}
@@ -19,7 +18,7 @@ use Rattle.hw_log.specs.Log.{Entries, log_of}
 use Rattle.hw_replay.specs.declared.fault.StartFault.{StartFault}
 use Rattle.hw_replay.specs.Taken.{Taken, nothing_taken, rest_taken}
 use Rattle.hw_replay.specs.Replay.{is_wanted, said_replayed, replay_of}
-use Rattle.hw_replay.specs.Laws.{deliveries_of, IsReplayed}
+use Rattle.hw_replay.specs.Laws.{deliveries_of}
 use Rattle.hw_replay.proofs.DeliveredLaws.{replay_delivers}
 use Rattle.hw_session.specs.Node.{NodeState, IsSound}
 use Rattle.hw_session.specs.Restart.{HasLog, journal_log}
@@ -31,7 +30,7 @@ use Rattle.hw_commands.specs.Program.{◌>>=◌, Held, Part, ended, or_stopped, 
 use Rattle.hw_commands.proofs.AuditedLaws.{audit_is_the_verdict, verdict_is_there}
 use Rattle.hw_run_laws.proofs.StartLaws.{unasked, gives_back}
 use Rattle.hw_agreement.specs.Lives.{AreHonest}
-use Rattle.hw_agreement.specs.Logs.{AgreesOrClashes, LogsAgree, NodesLogsAgree, LivesLogsAgree}
+use Rattle.hw_agreement.specs.Logs.{LogsAgree, NodesLogsAgree, LivesLogsAgree}
 use Rattle.hw_agreement.proofs.LifeLaws.{hosts_agree, at_sound, at_ready}
 
 -- ---- what was replayed, deliveries made
@@ -52,9 +51,10 @@ made held wanted name t e = go (held name) e
     go None e = absurd cc
     go (Some bytes) e =
         let p = replay_delivers wanted bytes t (stopped wanted name bytes t (replay_of wanted bytes) refl e) in
-        let is = p.core_is ∙ (deliveries_are p.config (deliveries_of p.entries)).0 in
-        (deliveries_of p.entries,
-         ap (λ (c : CoreState). c.journal) is ∙ ap (λ (c : CoreState). journal_of (setting_of c.config) (deliveries_of p.entries)) (sym is))
+        let is = p.core_is ∙ (deliveries_are p.config (deliveries_of p.entries)).0 in (
+          deliveries_of p.entries,
+          ap (λ (c : CoreState). c.journal) is ∙ ap (λ (c : CoreState). journal_of (setting_of c.config) (deliveries_of p.entries)) (sym is),
+        )
 
 -- ---- two logs
 
@@ -77,13 +77,13 @@ logs_agree words held left right first second honest asked first_is second_is on
     let dr = decisions_of s second.core.journal in
     let v = verdict_is_there s first.core.journal second.core.journal dl dr in
     let well : IsNoConflict v.0 =
-          (let P : List Vertex → List Vertex → Type 0 = λ j k. AreHonest s (j ++ k) honest → AreDecisions s j dl → AreDecisions s k dr → IsVerdict s j k dl dr v.0 → IsNoConflict v.0 in
-           let both : P (journal_of s l.0) (journal_of s r.0) = λ h d e i. hosts_agree s l.0 r.0 honest h dl dr d e v.0 i in
-           subst (λ j. P j second.core.journal) (sym l.1) (subst (λ k. P (journal_of s l.0) k) (sym r_is) both) are (decides s first.core.journal) (decides s second.core.journal) v.1) in
+    (let P : List Vertex → List Vertex → Type 0 = λ j k. AreHonest s (j ++ k) honest → AreDecisions s j dl → AreDecisions s k dr → IsVerdict s j k dl dr v.0 → IsNoConflict v.0 in
+    let both : P (journal_of s l.0) (journal_of s r.0) = λ h d e i. hosts_agree s l.0 r.0 honest h dl dr d e v.0 i in
+    subst (λ j. P j second.core.journal) (sym l.1) (subst (λ k. P (journal_of s l.0) k) (sym r_is) both) are (decides s first.core.journal) (decides s second.core.journal) v.1) in
     let said : audit_said held left right ≡ Ok (verdict_ended first.core.config.ftt v.0) =
-          audit_is_the_verdict held left right first second dl dr v.0 first_is second_is (decides s first.core.journal) (decides s second.core.journal) v.1 v.2 in
+    audit_is_the_verdict held left right first second dl dr v.0 first_is second_is (decides s first.core.journal) (decides s second.core.journal) v.1 v.2 in
     let status : (run_of words held).status ≡ (verdict_ended first.core.config.ftt v.0).status =
-          ap (λ (o : Option Request). (ended (request_said held o)).status) asked ∙ ap (λ (p : Part Ended). (ended p).status) said in
+    ap (λ (o : Option Request). (ended (request_said held o)).status) asked ∙ ap (λ (p : Part Ended). (ended p).status) said in
     subst (λ n. (n ≡ 0) ⊎ (n ≡ 9)) (sym status) (ends_well v.0 first.core.config.ftt well)
 
 -- ---- the logs of nodes

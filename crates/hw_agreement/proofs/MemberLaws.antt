@@ -1,25 +1,23 @@
 -- Validators that lived, copies of a log, and a faulty validator among honest ones.
-use Rattle.std.proofs.Common.{◌≡◌, ℕ, ◌<◌, ◌≤◌, inl, inr, Bool, true, false, List, [], ◌∷◌, ◌++◌, length, None, Some, refl, sym, ap, subst, ◌∙◌, eqb-true, arith}
-use Rattle.std.specs.Prelude.{flat_map, ◌==◌, ◌||◌, codes, ◌^◌}
+use Rattle.std.proofs.Common.{◌≡◌, ℕ, ◌<◌, inl, inr, Bool, true, false, List, [], ◌∷◌, ◌++◌, None, Some, refl, sym, ap, subst, ◌∙◌, eqb-true, arith}
+use Rattle.std.specs.Prelude.{◌==◌, ◌||◌, codes, ◌^◌}
 use Rattle.std.proofs.lemmas.List.Elements.{All-from_recursion}
 use Rattle.hw_types.specs.declared.unit.SignedUnit.{SignedUnit}
 use Rattle.hw_types.specs.declared.unit.Vertex.{Vertex}
 use Rattle.hw_types.specs.Below.{Among}
 use Rattle.hw_types.specs.Limits.{config_fault}
 use Rattle.hw_types.specs.Real.{setting_of}
-use Rattle.hw_types.specs.Votes.{weight_of}
 use Rattle.hw_types.specs.Culprits.{signed_in, culprits_of}
 use Rattle.hw_types.proofs.EntryLaws.{append_cases}
 use Rattle.hw_safety.specs.Verdicts.{held_in}
 use Rattle.hw_codec.specs.Ranges.{ConfigInRange}
 use Rattle.hw_log.specs.Log.{header_bytes}
 use Rattle.hw_session.specs.Node.{IsSound}
-use Rattle.hw_session.specs.Standing.{Standing}
 use Rattle.hw_commands.specs.Commands.{Audit, request_of}
 use Rattle.hw_run_laws.specs.Calls.{IsReady}
 use Rattle.hw_run_laws.proofs.BeginLaws.{new_ready}
 use Rattle.hw_run_laws.proofs.MemberLaws.{lives_there}
-use Rattle.hw_samples.specs.Words.{unsigned_as, sent, both, unfold_answers}
+use Rattle.hw_samples.specs.Words.{sent, both, unfold_answers}
 use Rattle.hw_samples.specs.FourUnits.{a0}
 use Rattle.hw_agreement.specs.Lives.{Life, HasLived, AreHonest}
 use Rattle.hw_agreement.specs.Members.{LivesBegin, OwnJournalsAreLived, copies_of, audit_words, CopiesAreThere, OneIsHeavy, one_of_three, z0, left_journal, right_journal, FirstIsFaulty, new_of_three}
@@ -85,7 +83,7 @@ copies_are_there me life b m few =
     let one = own_lived me life b m in
     let lived : HasLived (b.node.core.journal ++ b.node.core.journal) me = record { life = one.life; own = λ x h by. one.own x (twice b.node.core.journal x h) by } in
     let honest : AreHonest (setting_of b.node.core.config) (b.node.core.journal ++ b.node.core.journal) (λ v. v == me) =
-          record { lived = λ v e. subst (HasLived (b.node.core.journal ++ b.node.core.journal)) (sym (eqb-true v me e)) lived; few = few } in
+    record { lived = λ v e. subst (HasLived (b.node.core.journal ++ b.node.core.journal)) (sym (eqb-true v me e)) lived; few = few } in
     record {
       asked = asked;
       left = record { moment = m; copied = refl };

@@ -1,5 +1,5 @@
 -- Whom a reported conflict accuses.
-use Rattle.std.proofs.Common.{◌≡◌, ℕ, ◌<◌, List, ◌++◌, sym, subst, arith}
+use Rattle.std.proofs.Common.{ℕ, ◌<◌, List, ◌++◌, subst, arith}
 use Rattle.hw_types.specs.declared.unit.Vertex.{Vertex}
 use Rattle.hw_types.specs.declared.config.Config.{Config}
 use Rattle.hw_types.specs.declared.answers.Decision.{Decision}

@@ -38,7 +38,6 @@ use Rattle.hw_service.specs.Turns.{TellsMade, MakesUnit, DrivesOne, Turning}
 use Rattle.hw_run_laws.specs.Restart.{IsLogged, IsMetLogged}
 use Rattle.hw_run_laws.specs.Calls.{Attempt, makes, serves, drives, meets, IsMade, IsWhole, StartsAgain, Call, goes_on, starts, gives_up, AreCalls, IsReady}
 use Rattle.hw_run_laws.specs.InHand.{IsFairTold, IsFairDialled, IsFairMeeting}
-use Rattle.hw_agreement.specs.Lives.{Life}
 use Rattle.hw_agreement.specs.Runs.{standing_of, DrivesFairly, DrivesAllFairly, MakesLast, TurnsFairly, ServesFairly, HostsFairly, CallsFairly, last_of, LeadsTo, TurnsAreCalls, ServesAreCalls, HostsAreCalls, MeetsAreCalls, NewRunsBegin, FindsLog, LaterRunsGoOn}
 
 -- ---- calls, one list after the other
@@ -300,8 +299,7 @@ later_runs_go_on sight names maker me before now life c b leads left finds confi
     let now_is = standing_of now in
     let last = last_of (last_of life.first life.more) leads.more in
     let call : Call me last now_is = next me last c now_is leads.ends left start in
-    let on : AreCalls me (last_of life.first life.more) (leads.more ++ now_is ∷ []) = calls_both me (last_of life.first life.more) leads.more (now_is ∷ []) leads.calls (call, sound, tt) in
-    (
+    let on : AreCalls me (last_of life.first life.more) (leads.more ++ now_is ∷ []) = calls_both me (last_of life.first life.more) leads.more (now_is ∷ []) leads.calls (call, sound, tt) in (
       record {
         first = life.first;
         more = life.more ++ (leads.more ++ now_is ∷ []);

@@ -1,5 +1,5 @@
 -- A turn in which a validator makes its unit, and sessions with peers that send nothing.
-use Rattle.std.proofs.Common.{◌≡◌, ℕ, ◌<◌, ◌^◌, inl, true, false, List, [], ◌∷◌, ◌++◌, length, Option, Some, None, Result, Ok, refl, sym, arith}
+use Rattle.std.proofs.Common.{◌≡◌, ℕ, ◌<◌, inl, true, false, List, [], ◌∷◌, ◌++◌, length, Option, Some, Ok, refl, sym, arith}
 use Rattle.std.specs.Prelude.{codes}
 use Rattle.std.proofs.lemmas.List.{append-nil}
 use Rattle.std.proofs.lemmas.List.Elements.{All-nil, All-from_recursion}
@@ -15,8 +15,8 @@ use Rattle.hw_replay.specs.Chain.{told_chain}
 use Rattle.hw_replay.specs.Feed.{moment, IsPassed}
 use Rattle.hw_replay.specs.Told.{IsTold}
 use Rattle.hw_session.specs.declared.fault.MakeFault.{MakeFault}
-use Rattle.hw_session.specs.Node.{NodeState, IsSound}
-use Rattle.hw_session.specs.Make.{own_vertex, entry_for, with_entry}
+use Rattle.hw_session.specs.Node.{IsSound}
+use Rattle.hw_session.specs.Make.{own_vertex, entry_for}
 use Rattle.hw_session.specs.Sessions.{session_of}
 use Rattle.hw_session.specs.Standing.{Standing}
 use Rattle.hw_service.specs.Scene.{DoorSeen, Scene, door_seen, outside, scene}
@@ -30,8 +30,7 @@ use Rattle.hw_run_laws.proofs.GivenLaws.{put, put_appends}
 use Rattle.hw_run_laws.proofs.InHandLaws.{quiet_fair}
 use Rattle.hw_run_laws.proofs.MemberLaws.{made_sound}
 use Rattle.hw_run_laws.proofs.QuietLaws.{quiet_serves}
-use Rattle.hw_agreement.specs.Runs.{standing_of, DrivesAllFairly}
-use Rattle.hw_agreement.specs.RunMembers.{before_turn, first_value, with_first, TurnIsTaken, SessionIsServed, SessionsAreServed}
+use Rattle.hw_agreement.specs.RunMembers.{before_turn, first_value, with_first, TurnIsTaken, SessionsAreServed}
 
 -- ---- no consumer is there
 

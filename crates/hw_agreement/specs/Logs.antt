@@ -1,15 +1,9 @@
 -- The logs of validators as they run, and the audit of two of them: the statements.
 -- Source: ours, after Highway.
 use Rattle.std.specs.Prelude.{◌≡◌, ◌⊎◌, ℕ, Bool, List, ◌∷◌, ◌++◌, Option, Some, None, Ok}
-use Rattle.hw_types.specs.declared.config.Config.{Config}
-use Rattle.hw_types.specs.declared.unit.Vertex.{Vertex}
 use Rattle.hw_types.specs.Below.{Among}
-use Rattle.hw_types.specs.Journal.{journal_of}
 use Rattle.hw_types.specs.Real.{setting_of}
-use Rattle.hw_log.specs.declared.entry.LogEntry.{LogEntry}
-use Rattle.hw_log.specs.Log.{log_of}
 use Rattle.hw_replay.specs.Taken.{Taken}
-use Rattle.hw_replay.specs.Laws.{deliveries_of}
 use Rattle.hw_session.specs.Node.{NodeState, IsSound}
 use Rattle.hw_session.specs.Restart.{HasLog}
 use Rattle.hw_session.specs.Standing.{Standing}

@@ -1,6 +1,6 @@
 -- That there is what these laws speak of: validators that lived, copies of a log, and a faulty validator among honest ones.
 -- Source: ours.
-use Rattle.std.specs.Prelude.{◌≡◌, ℕ, ◌<◌, ◌≤◌, ◌==◌, ◌||◌, Bool, true, List, [], ◌∷◌, ◌++◌, length, codes, Some}
+use Rattle.std.specs.Prelude.{◌≡◌, ℕ, ◌<◌, ◌≤◌, ◌==◌, ◌||◌, List, [], ◌∷◌, ◌++◌, length, codes, Some}
 use Rattle.hw_types.specs.declared.config.Config.{Config}
 use Rattle.hw_types.specs.declared.unit.WireUnit.{WireUnit}
 use Rattle.hw_types.specs.declared.unit.Vertex.{Vertex}
@@ -15,7 +15,7 @@ use Rattle.hw_session.specs.Standing.{Standing}
 use Rattle.hw_commands.specs.Commands.{Word, Audit, request_of}
 use Rattle.hw_commands.specs.Program.{Held}
 use Rattle.hw_run_laws.specs.Calls.{IsReady}
-use Rattle.hw_run_laws.specs.Members.{Turn, turns_of, MayAllTurn, alone, first_standing}
+use Rattle.hw_run_laws.specs.Members.{Turn, turns_of, MayAllTurn, alone}
 use Rattle.hw_samples.specs.Words.{equal_three, in_short, unit, sent, both, deliver}
 use Rattle.hw_samples.specs.FourUnits.{nothing, a0}
 use Rattle.hw_agreement.specs.Lives.{Life, HasLived, AreHonest}

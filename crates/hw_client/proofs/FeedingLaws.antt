@@ -41,8 +41,8 @@ fed config xs ys same left right =
     let s = setting_of config in
     order_does_not_count config (trusted xs) (trusted ys)
     (says_both s (journal_of s (trusted xs)) ys (journal_of s (trusted ys))
-      (says_both s (journal_of s (trusted xs)) xs ys (says_all s [] xs left) (says s xs ys same))
-      (says_back s (journal_of s (trusted ys)) ys (says_all s [] ys right)))
+    (says_both s (journal_of s (trusted xs)) xs ys (says_all s [] xs left) (says s xs ys same))
+    (says_back s (journal_of s (trusted ys)) ys (says_all s [] ys right)))
 
 -- what a node tells is told by its configuration and its journal
 pub in_hand : CoresTellTheSame
@@ -57,5 +57,5 @@ in_hand c d config come_c come_d same =
     let left : TellsTheSame (of c.journal) (delivered c.config come_d.0) = subst (λ (k : CoreState). TellsTheSame k (delivered c.config come_d.0)) e told in
     let both : TellsTheSame (of c.journal) (of d.journal) = subst (λ (k : CoreState). TellsTheSame (of c.journal) k) f left in
     let all : TellsTheSame (of c.journal) (record { config = d.config; journal = d.journal; asked = None }) =
-          subst (λ (k : Config). TellsTheSame (of c.journal) (record { config = k; journal = d.journal; asked = None })) config both in
+    subst (λ (k : Config). TellsTheSame (of c.journal) (record { config = k; journal = d.journal; asked = None })) config both in
     record { settled = all.settled; parked = all.parked; dropped = all.dropped; missing = all.missing; rules = all.rules; panorama = all.panorama; fork = all.fork; weight = all.weight; exceeded = all.exceeded }

@@ -1,5 +1,5 @@
 -- A validator's host with a node and a log.
-use Rattle.std.proofs.Common.{◌≡◌, List, [], refl, sym, ap, ◌∙◌}
+use Rattle.std.proofs.Common.{List, [], refl, sym, ap, ◌∙◌}
 use Rattle.hw_types.specs.declared.unit.Vertex.{Vertex}
 use Rattle.hw_types.specs.Journal.{journal_of}
 use Rattle.hw_types.specs.Real.{setting_of}

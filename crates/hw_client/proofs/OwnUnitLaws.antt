@@ -1,5 +1,5 @@
 -- The units of a journal by their names.
-use Rattle.std.proofs.Common.{◌≡◌, ℕ, inl, inr, Bool, true, false, cond, List, [], ◌∷◌, ◌++◌, Option, Some, None, Result, Ok, Err, IfOk, refl, sym, ap, subst, ◌∙◌, eq-eqb}
+use Rattle.std.proofs.Common.{◌≡◌, ℕ, inl, inr, Bool, true, false, cond, List, [], ◌∷◌, ◌++◌, Some, None, Result, Ok, Err, IfOk, refl, sym, ap, subst, ◌∙◌, eq-eqb}
 use Rattle.std.specs.Prelude.{find, filter_map, fold, ◌==◌, ◌↔◌, IsTrue}
 use Rattle.hw_types.specs.declared.unit.Digest.{Digest}
 use Rattle.hw_types.specs.declared.unit.WireUnit.{WireUnit}
@@ -10,7 +10,7 @@ use Rattle.hw_types.specs.declared.unit.Vertex.TheVariants as vertex
 use Rattle.hw_types.specs.Graph.{Node, digest_eq}
 use Rattle.hw_types.specs.Below.{Among}
 use Rattle.hw_types.specs.Spelling.{digest_of}
-use Rattle.hw_types.specs.Journal.{Setting, named, received_of, unit_of_vertex, refusal, answer, is_accepted, journal_after, journal_of}
+use Rattle.hw_types.specs.Journal.{Setting, named, received_of, unit_of_vertex, refusal, answer, is_accepted, journal_after}
 use Rattle.hw_types.specs.Real.{CoreState, setting_of, received_in}
 use Rattle.hw_types.specs.laws.StateLaws.{units_in, NamesApart}
 use Rattle.hw_types.proofs.ClosureLaws.{Among-filter, filter-Among}

@@ -1,5 +1,5 @@
 -- A validator's host keeps its line.
-use Rattle.std.proofs.Common.{◌≡◌, ℕ, ◌<◌, Bool, true, List, length, Option, Some, None, refl, sym, subst}
+use Rattle.std.proofs.Common.{◌≡◌, ℕ, ◌<◌, Bool, true, List, length, Some, None, refl, sym, subst}
 use Rattle.hw_types.specs.declared.answers.Plan.{Plan}
 use Rattle.hw_types.specs.declared.unit.Signature.{Signature}
 use Rattle.hw_types.specs.declared.unit.SignedUnit.{SignedUnit}

@@ -26,12 +26,7 @@ pub fn has_unit(alloc: Global, core: &Core, unit: &WireUnit) -> Result<bool, Out
 }
 
 /// Whether the unit is another validator's, or one that the journal has.
-fn is_no_new(
-    alloc: Global,
-    core: &Core,
-    me: u32,
-    signed: &SignedUnit,
-) -> Result<bool, OutOfMemory>
+fn is_no_new(alloc: Global, core: &Core, me: u32, signed: &SignedUnit) -> Result<bool, OutOfMemory>
     requires { Fits signed.now.unit }
     ensures { IfOk result (λ known. IsTrue known ↔ (signed.now.unit.creator ≡ me → Among (named (setting_of core.now.config) signed.now.unit) (units_by (setting_of core.now.config) core.now.journal me))) }
 {

@@ -1,25 +1,20 @@
 -- Who signed one unit for each number is no culprit, and honest validators agree.
-use Rattle.std.proofs.Common.{◌≡◌, ℕ, ◌≤◌, inl, inr, Bool, true, false, not, List, [], ◌∷◌, ◌++◌, refl, sym, ap, subst, ◌∙◌, eqb-true, arith}
+use Rattle.std.proofs.Common.{◌≡◌, ℕ, inl, inr, Bool, true, false, not, List, [], ◌∷◌, ◌++◌, refl, sym, subst, eqb-true, arith}
 use Rattle.std.specs.Prelude.{map, ◌==◌}
 use Rattle.std.specs.List.{list_any}
 use Rattle.hw_types.specs.declared.unit.Vertex.{Vertex}
 use Rattle.hw_types.specs.declared.answers.Culprit.{Culprit}
-use Rattle.hw_types.specs.declared.answers.Decision.{Decision}
 use Rattle.hw_types.specs.Below.{Among}
-use Rattle.hw_types.specs.Votes.{weight_of}
 use Rattle.hw_types.specs.Journal.{Setting, journal_of}
-use Rattle.hw_types.specs.Decisions.{AreDecisions}
 use Rattle.hw_types.specs.Culprits.{culprits_of, IsShown}
 use Rattle.hw_types.proofs.PastLaws.{some_of}
 use Rattle.hw_types.proofs.JournalLaws.{weight_of_le}
 use Rattle.hw_types.proofs.OrderedLaws.{all_among}
-use Rattle.hw_safety.specs.declared.verdict.Verdict.{Verdict}
 use Rattle.hw_safety.specs.declared.verdict.Verdict.TheVariants as verdict
-use Rattle.hw_safety.specs.Verdicts.{culprit_weight, IsVerdict}
+use Rattle.hw_safety.specs.Verdicts.{culprit_weight}
 use Rattle.hw_safety.proofs.ApartLaws.{conflict}
 use Rattle.hw_safety.proofs.ShownLaws.{found}
-use Rattle.hw_agree.specs.Agree.{IsNoConflict}
-use Rattle.hw_culprits.specs.Innocence.{SignsOnce, weight_of_others, WhoSignsOnceIsNotNamed, CulpritsAreOthers, WhoSignOnceAgree}
+use Rattle.hw_culprits.specs.Innocence.{SignsOnce, WhoSignsOnceIsNotNamed, CulpritsAreOthers, WhoSignOnceAgree}
 use Rattle.hw_culprits.proofs.PairLaws.{culprit_shows}
 
 -- a validator that is named has a culprit of its own

@@ -1,5 +1,3 @@
-use Rattle.std.proofs.Common.{◌≡◌, true, sym, ap}
-use Rattle.std.specs.Prelude.{◌↔◌, IsTrue}
 use Rattle.hw_types.specs.Real.{CoreState, setting_of, after_in}
 use Rattle.hw_honest.specs.OneLine.{OneLine, BringsNoNew}
 use Rattle.hw_client.proofs.DecidedLaws.{either_way}

@@ -1,5 +1,4 @@
-use Rattle.std.proofs.Common.{◌≡◌, true, Option, Some, sym, ◌∙◌}
-use Rattle.hw_types.specs.declared.answers.Plan.{Plan}
+use Rattle.std.proofs.Common.{◌≡◌, true, Some, sym, ◌∙◌}
 use Rattle.hw_types.specs.declared.unit.SignedUnit.{SignedUnit}
 use Rattle.hw_types.specs.declared.unit.Vertex.TheVariants as vertex
 use Rattle.hw_types.specs.Real.{CoreState, setting_of, received_in, after_in}
