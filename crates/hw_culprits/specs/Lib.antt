@@ -1,0 +1,2 @@
+pub mod Equivocation
+pub mod Innocence
