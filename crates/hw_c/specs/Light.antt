@@ -1,8 +1,7 @@
 -- What calls answer about certificates.
 -- Source: ours.
-use Rattle.std.specs.Prelude.{◌≡◌, ◌≢◌, ℕ, ◌≤◌, Bool, List, length, slice_get, Some, Result, Ok, Err}
+use Rattle.std.specs.Prelude.{◌≡◌, ◌≢◌, ℕ, ◌≤◌, Bool, List, length, map, Result, Ok, Err}
 use Rattle.hw_types.specs.declared.unit.Digest.{Digest}
-use Rattle.hw_types.specs.declared.unit.Vertex.{Vertex}
 use Rattle.hw_types.specs.Real.{CoreState}
 use Rattle.hw_types.specs.Spelling.{instance_of}
 use Rattle.hw_core.specs.Decided.{decided_in}
@@ -20,6 +19,7 @@ use Rattle.hw_c.specs.declared.codes.Fault.TheVariants as why
 use Rattle.hw_c.specs.declared.signed.Signed.{Signed}
 use Rattle.hw_c.specs.declared.light.Judged.{Judged}
 use Rattle.hw_c.specs.Answers.{signed_of}
+use Rattle.hw_c.specs.Buffers.{copied}
 use Rattle.hw_c.specs.Calls.{IsWant}
 use Rattle.hw_c.specs.Told.{config_status, cause_status}
 
@@ -33,12 +33,13 @@ IsCertificate c index (Err why.Nothing) = IsCertifiedAs c index NotNow
 IsCertificate c index (Err why.TooLong) = (count : ℕ) × IsTooLong c index count
 IsCertificate c index (Err f) = IsWant f
 
--- who signed the vertex of that place in the certificate that the bytes spell, and which units
-abbrev pub IsCertifiedSigned : List ℕ → ℕ → Result Signed Fault → Type 0
-IsCertifiedSigned bytes place (Ok signed) = (c : Certificate) × (certificate_of bytes ≡ Ok c) × ((v : Vertex) × (slice_get c.vertices place ≡ Some v) × (signed ≡ signed_of v))
-IsCertifiedSigned bytes place (Err (why.Certificate e)) = IsErrorOf (certificate_of bytes) e
-IsCertifiedSigned bytes place (Err why.Nothing) = (c : Certificate) × (certificate_of bytes ≡ Ok c) × (length c.vertices ≤ place)
-IsCertifiedSigned bytes place (Err f) = IsWant f
+-- Who signed each vertex of the certificate that the bytes spell, and which units: as many as fit, and after them what
+-- was there before. The count is that of all its vertices. After a fault nothing has changed.
+abbrev pub AreCertifiedSigned : List ℕ → List Signed → List Signed → Result ℕ Fault → Type 0
+AreCertifiedSigned bytes old new (Ok count) =
+    (c : Certificate) × (certificate_of bytes ≡ Ok c) × (count ≡ length c.vertices) × (new ≡ copied (map signed_of c.vertices) old)
+AreCertifiedSigned bytes old new (Err (why.Certificate e)) = IsErrorOf (certificate_of bytes) e × (new ≡ old)
+AreCertifiedSigned bytes old new (Err f) = IsWant f × (new ≡ old)
 
 -- Kind 0 is yes, and the others are no. Kind 1: the configuration breaks a limit. Kind 2: a vertex is refused. Kind 3:
 -- the faulty validators weigh more than the threshold. Kind 4: the block has no summit.

@@ -24,7 +24,7 @@ ghost use Rattle.hw_c.specs.Audits.{IsAudit};
 ghost use Rattle.hw_c.specs.Buffers.{IsWritten, IsPutWithBytes};
 ghost use Rattle.hw_c.specs.Calls.{IsSigned, IsEntry, IsSummary, IsObserved, IsPlaced, IsDecided, IsUnmet, IsWithSignature};
 ghost use Rattle.hw_c.specs.Handles.{Begins, Ends, Delivers, Reads, ReadsBoth};
-ghost use Rattle.hw_c.specs.Light.{IsCertificate, IsCertifiedSigned, IsJudged};
+ghost use Rattle.hw_c.specs.Light.{IsCertificate, AreCertifiedSigned, IsJudged};
 ghost use Rattle.hw_c.specs.Needed.{IsForNeed};
 ghost use Rattle.hw_c.specs.Settings.{IsConfig};
 ghost use Rattle.hw_c.specs.Steps.{IsStep};
@@ -290,19 +290,20 @@ pub extern "C" fn hw_certificate(
     put_bytes(outcome, buf, len)
 }
 
-/// Who signed the vertex of that place in the certificate that the bytes spell, and which units.
+/// Who signed each vertex of the certificate that the bytes spell, and which units: as many as fit. The count is that of
+/// all its vertices.
 #[unsafe(no_mangle)]
 pub extern "C" fn hw_certified(
     alloc: Global,
     certificate: &[u8],
-    place: usize,
-    signed: &mut Signed,
+    list: &mut [Signed],
+    count: &mut usize,
     answer: &mut Answer,
 ) -> u32
-    ensures { (r : Result Signed Fault) × IsCertifiedSigned certificate.now place r × PutsWith r signed.old signed.new answer.new result }
+    ensures { (r : Result ℕ Fault) × AreCertifiedSigned certificate.now list.old list.new r × PutsWith r count.old count.new answer.new result }
 {
-    let outcome = light::certified_signatures(alloc, certificate, place);
-    put_with(outcome, signed, answer)
+    let outcome = light::certified_signatures(alloc, certificate, list);
+    put_with(outcome, count, answer)
 }
 
 /// The answer to the certificate that the bytes spell, with these verdicts on the signatures of its vertices.

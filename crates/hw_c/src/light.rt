@@ -1,9 +1,10 @@
 //! Certificates: a node makes them, and anyone reads and checks them.
 
-ghost use Rattle.std.specs.Prelude.{◌≡◌, IfOk};
-ghost use Rattle.hw_types.specs.Spelling.{ConfigFits};
+ghost use Rattle.std.specs.{Prelude.{◌≡◌, map, IfOk}, List.{All}};
+ghost use Rattle.hw_types.specs.Spelling.{ConfigFits, VertexFits};
 ghost use Rattle.hw_light.specs.Checked.{IsAnswer, IfYes, IsCertified};
-ghost use Rattle.hw_c.specs.Light.{judged_of, IsCertificate, IsCertifiedSigned, IsJudged};
+ghost use Rattle.hw_c.specs.Answers.{signed_of};
+ghost use Rattle.hw_c.specs.Light.{judged_of, IsCertificate, AreCertifiedSigned, IsJudged};
 
 use crate::codes::{Fault, cause_status, config_status};
 use crate::signed::{Signed, signed_of};
@@ -12,7 +13,7 @@ use hw_core::Core;
 use hw_light::{
     Certified, CheckFault, Checked, certify, check, decode_certificate, encode_certificate,
 };
-use hw_types::{Bytes, Digest};
+use hw_types::{Bytes, Digest, OutOfMemory, Vertex};
 use std::alloc::Global;
 
 /// The answer to a certificate with verdicts, its block, and the instance of its configuration.
@@ -46,16 +47,33 @@ pub fn certificate(alloc: Global, core: &mut Core, index: u64) -> Result<Bytes, 
     }
 }
 
-/// Who signed the vertex of that place in the certificate that the bytes spell, and which units. `Nothing` where the
-/// certificate has fewer vertices.
-pub fn certified_signatures(alloc: Global, bytes: &[u8], place: usize) -> Result<Signed, Fault>
-    ensures { IsCertifiedSigned bytes.now place result }
+/// Who signed each of the vertices, and which units.
+fn signed_list(alloc: Global, vertices: &[Vertex]) -> Result<Vec<Signed>, OutOfMemory>
+    requires { All VertexFits vertices.now }
+    ensures { IfOk result (λ list. list.items ≡ map signed_of vertices.now) }
+{
+    let mut list = Vec::with_capacity(alloc, vertices.len())?;
+    'vertices: for vertex in vertices {
+        list.push_reserved(signed_of(alloc, vertex)?);
+    }
+    Ok(list)
+}
+
+/// Who signed each vertex of the certificate that the bytes spell, and which units: as many as the list has places for.
+/// Answers how many vertices the certificate has.
+pub fn certified_signatures(
+    alloc: Global,
+    bytes: &[u8],
+    list: &mut [Signed],
+) -> Result<usize, Fault>
+    ensures { AreCertifiedSigned bytes.now list.old list.new result }
 {
     let certificate = decode_certificate(alloc, bytes)?;
-    if place >= certificate.vertices.len() {
-        return Err(Fault::Nothing);
-    }
-    Ok(signed_of(alloc, &certificate.vertices.as_slice()[place])?)
+    let vertices = certificate.vertices.as_slice();
+    let count = vertices.len().min(list.len());
+    let signed = signed_list(alloc, &vertices[..count])?;
+    list[..count].copy_from_slice(signed.as_slice());
+    Ok(vertices.len())
 }
 
 fn judged_of(checked: &Checked, block: Digest, instance: Digest) -> Judged

@@ -1,0 +1,192 @@
+//! What a unit is: what it says, and what a node has worked out about it.
+
+ghost use Rattle.std.specs.Prelude.{◌≡◌, ◌<◌, ◌≤◌, ◌++◌, length, map, take, drop};
+ghost use Rattle.hw_dag.specs.Dag.{count_of, unit_at};
+ghost use Rattle.hw_dag.specs.declared.numbers.UnitNo.{UnitNo as Number};
+ghost use Rattle.hw_c.specs.Answers.{observed_of};
+ghost use Rattle.hw_c.specs.Buffers.{copied};
+ghost use Rattle.hw_c.specs.Facts.{said_of, IsSettledFacts, IsUnitFacts, IsSpelledFacts, value_bytes};
+
+use crate::calls::{Observed, observed_of};
+use crate::codes::Fault;
+use crate::put::WithBytes;
+use hw_codec::{decode_vertex, digest_of};
+use hw_core::{Core, Place};
+use hw_dag::{Dag, UnitNo};
+use hw_types::{Bytes, Digest, Obs, OutOfMemory, Vertex, WireUnit};
+use std::alloc::Global;
+
+/// What a unit says, and what a node has worked out about it.
+#[repr(C)]
+#[derive(Clone, Copy)]
+pub struct UnitFacts {
+    pub creator: u32,
+    /// Its round lasts 2^exponent milliseconds.
+    pub exponent: u32,
+    /// The validator that leads its round.
+    pub leader: u32,
+    /// What became of it: 0 it isn't in the journal, 1 settled, 2 parked, 3 dropped.
+    pub place: u32,
+    /// 1 where it has a value, and so is a block; else 0.
+    pub is_block: u32,
+    /// 1 where it is a settled block above another; else 0.
+    pub has_parent: u32,
+    /// 1 where it is settled; else 0.
+    pub has_vote: u32,
+    /// How many units its endorsed list names.
+    pub endorsed: u32,
+    pub seq: u64,
+    /// When it was made, in milliseconds.
+    pub time: u64,
+    /// When its round begins, in milliseconds.
+    pub round: u64,
+    /// Of a settled block: how many blocks are below it on its chain; else 0.
+    pub height: u64,
+    /// How many bytes its value has.
+    pub length: u64,
+    pub digest: [u8; 32],
+    /// The block that it stands on, where it has one; else zeros.
+    pub parent: [u8; 32],
+    /// The block that it votes for, where it is settled: itself, if it is a block; else zeros.
+    pub vote: [u8; 32],
+}
+
+fn number_of(is: bool) -> u32
+    ensures { result ≡ flag is }
+{
+    if is { 1 } else { 0 }
+}
+
+/// When the round of that moment and exponent begins. It is 0 for a round that is longer than all time.
+fn round_of(time: u64, exponent: u8) -> u64
+    ensures { result ≡ round_id time exponent }
+{
+    if exponent >= 64 {
+        0
+    } else {
+        time >> exponent << exponent
+    }
+}
+
+/// What a unit of this name says.
+fn said_by(core: &Core, unit: &WireUnit, name: &Digest) -> UnitFacts
+    requires { Fits unit.now }
+    ensures { result ≡ said_of core.now.config unit.now name.now }
+{
+    let round = round_of(unit.time, unit.exponent);
+    let length = match &unit.value {
+        Some(value) => value.len() as u64,
+        None => 0,
+    };
+    let digest = name.0;
+    UnitFacts {
+        creator: unit.creator,
+        exponent: u32::from(unit.exponent),
+        leader: core.state().leaders().leader(round),
+        place: 0,
+        is_block: number_of(unit.value.is_some()),
+        has_parent: 0,
+        has_vote: 0,
+        endorsed: unit.endorsed.len() as u32,
+        seq: unit.seq,
+        time: unit.time,
+        round,
+        height: 0,
+        length,
+        digest,
+        parent: [0; 32],
+        vote: [0; 32],
+    }
+}
+
+/// What it says, with what the graph has worked out about the unit of this number.
+fn with_settled(dag: &Dag, no: UnitNo, said: UnitFacts) -> UnitFacts
+    requires { no.0 < count_of dag.now }
+    ensures { result ≡ settled_of dag.now no said }
+{
+    let unit = dag.unit(no);
+    let mut facts = said;
+    facts.place = 1;
+    facts.has_vote = 1;
+    facts.vote = dag.unit(unit.vote()).digest().0;
+    facts.height = unit.height().unwrap_or(0);
+    if let Some(parent) = unit.parent() {
+        facts.has_parent = 1;
+        facts.parent = dag.unit(parent).digest().0;
+    }
+    facts
+}
+
+/// The bytes of a unit's value: none where it has no value.
+fn value_of(alloc: Global, unit: &WireUnit) -> Result<Bytes, OutOfMemory>
+    ensures { IfOk result (λ bytes. bytes ≡ value_bytes unit.now) }
+{
+    match &unit.value {
+        Some(value) => Ok(value.copy()?),
+        None => Ok(Bytes::new(alloc)),
+    }
+}
+
+/// What the unit observes of each validator, as many as there are places for.
+fn put_observed(panorama: &[Obs], list: &mut [Observed])
+    ensures { list.new ≡ copied (map observed_of panorama.now) list.old }
+{
+    let count = panorama.len().min(list.len());
+    'slots: for k in 0..count {
+        list[k] = observed_of(panorama[k]);
+    }
+}
+
+/// What the journal's unit of this digest is, with its value, and what it observes of each validator. `Nothing` where
+/// the journal has none.
+pub fn unit_facts(
+    alloc: Global,
+    core: &Core,
+    digest: &[u8; 32],
+    list: &mut [Observed],
+) -> Result<WithBytes<UnitFacts>, Fault>
+    ensures { IsUnitFacts core.now digest.now list.old list.new result }
+{
+    let name = Digest(*digest);
+    let Some(signed) = core.unit_of(&name) else {
+        return Err(Fault::Nothing);
+    };
+    let said = said_by(core, &signed.unit, &name);
+    let value = match core.place_of(&name) {
+        Place::Settled(no) => with_settled(core.state().dag(), no, said),
+        Place::Parked(_) => placed(said, 2),
+        Place::Dropped(_) => placed(said, 3),
+        Place::Unknown => said,
+    };
+    let bytes = value_of(alloc, &signed.unit)?;
+    put_observed(signed.unit.panorama.as_slice(), list);
+    Ok(WithBytes { value, bytes })
+}
+
+fn placed(said: UnitFacts, place: u32) -> UnitFacts
+    ensures { result ≡ record said { place = place } }
+{
+    let mut facts = said;
+    facts.place = place;
+    facts
+}
+
+/// What the unit of the vertex that the bytes spell says, with its value, and what it observes of each validator.
+/// `Nothing` where the vertex is no unit.
+pub fn spelled_facts(
+    alloc: Global,
+    core: &Core,
+    bytes: &[u8],
+    list: &mut [Observed],
+) -> Result<WithBytes<UnitFacts>, Fault>
+    ensures { IsSpelledFacts core.now.config bytes.now list.old list.new result }
+{
+    let Vertex::Unit(signed) = decode_vertex(alloc, bytes)? else {
+        return Err(Fault::Nothing);
+    };
+    let name = digest_of(alloc, &signed.unit)?;
+    let value = said_by(core, &signed.unit, &name);
+    let bytes = value_of(alloc, &signed.unit)?;
+    put_observed(signed.unit.panorama.as_slice(), list);
+    Ok(WithBytes { value, bytes })
+}
