@@ -1,5 +1,5 @@
 //! Delivers a log of version 1 some times over, all vertices in one call, or each in a call of its own where the first
-//! word is `single`: what `tools/bindings_cost.sh` measures.
+//! word is `single`: what `tools/bindings/cost.sh` measures.
 
 use highway::{Core, Sent};
 

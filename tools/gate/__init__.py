@@ -1,0 +1,1 @@
+"""What the gate checks beside the proofs, and what measures the gate."""

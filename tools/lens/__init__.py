@@ -1,0 +1,1 @@
+"""To look at a log: what is in it, pictures and pages of it, a node that runs."""

@@ -1,0 +1,1 @@
+"""What commands of the program cost, and the logs that this is measured by."""

@@ -1,0 +1,1 @@
+"""To mend a torn log, and to bring back a node that lost its log."""
