@@ -6,7 +6,7 @@ ghost use Rattle.hw_types.specs.declared.unit.SignedUnit.{SignedUnit};
 ghost use Rattle.hw_types.specs.declared.unit.Vertex.TheVariants as vertices;
 ghost use Rattle.hw_types.specs.Spelling.{VertexFits, digest_of};
 ghost use Rattle.hw_c.specs.Answers.{flag, digest_bytes, summary_of, observed_of, placed_of, decided_of};
-ghost use Rattle.hw_c.specs.Calls.{IsNodeOf, IsVertexDelivery, IsDelivery, IsEntry, IsSummary, IsObserved, IsPlaced, IsDecided};
+ghost use Rattle.hw_c.specs.Calls.{IsNodeOf, IsVertexDelivery, IsDelivery, IsEntry, IsSummary, IsObserved, IsPlaced, IsDecided, AreFaulty};
 ghost use Rattle.hw_c.specs.Named.{IsNameIn};
 
 use crate::codes::Fault;
@@ -142,7 +142,8 @@ pub fn entry(alloc: Global, core: &Core, place: u64) -> Result<Bytes, Fault>
     Ok(encode_vertex(alloc, core.journal_at(place))?)
 }
 
-fn flag(holds: bool) -> u32
+/// 1 for yes, 0 for no.
+pub fn flag(holds: bool) -> u32
     ensures { result ≡ flag holds }
 {
     if holds { 1 } else { 0 }
@@ -176,7 +177,8 @@ pub fn summarize(core: &Core) -> Result<Summary, Fault>
     })
 }
 
-fn observed_of(observation: Obs) -> Observed
+/// What is observed of a validator: 0 nothing, 1 this is its latest unit, 2 it equivocated.
+pub fn observed_of(observation: Obs) -> Observed
     ensures { result ≡ observed_of observation }
 {
     match observation {
@@ -254,4 +256,21 @@ pub fn decision(core: &Core, index: u64) -> Result<Decided, Fault>
         return Err(Fault::Nothing);
     }
     Ok(decided_of(core.decision(index)))
+}
+
+/// Puts the faulty validators into the list, in rising order, as many as fit. Answers how many there are in all.
+pub fn faulty(core: &Core, list: &mut [u32]) -> Result<usize, Fault>
+    ensures { AreFaulty core.now list.old list.new result }
+{
+    let state = core.state();
+    let mut count = 0;
+    'validators: for validator in 0..state.config().weights.len() as u32 {
+        if state.is_faulty(validator) {
+            if count < list.len() {
+                list[count] = validator;
+            }
+            count += 1;
+        }
+    }
+    Ok(count)
 }

@@ -1,18 +1,21 @@
 //! What a unit is: what it says, and what a node has worked out about it.
 
-ghost use Rattle.std.specs.Prelude.{◌≡◌, ◌<◌, ◌≤◌, ◌++◌, length, map, take, drop};
-ghost use Rattle.hw_dag.specs.Dag.{count_of, unit_at};
-ghost use Rattle.hw_dag.specs.declared.numbers.UnitNo.{UnitNo as Number};
-ghost use Rattle.hw_c.specs.Answers.{observed_of};
+ghost use Rattle.std.specs.Prelude.{◌≡◌, ◌<◌, length, map, slice_get, Some, IfOk};
+ghost use Rattle.hw_types.specs.Graph.{Node};
+ghost use Rattle.hw_types.specs.Real.{settled_in};
+ghost use Rattle.hw_types.specs.Rounds.{round_id};
+ghost use Rattle.hw_types.specs.Spelling.{Fits};
+ghost use Rattle.hw_core.specs.Order.{order_in};
+ghost use Rattle.hw_c.specs.Answers.{flag, observed_of};
 ghost use Rattle.hw_c.specs.Buffers.{copied};
-ghost use Rattle.hw_c.specs.Facts.{said_of, IsSettledFacts, IsUnitFacts, IsSpelledFacts, value_bytes};
+ghost use Rattle.hw_c.specs.Facts.{said_of, settled_facts, value_bytes, IsUnitFacts, IsSpelledFacts};
 
-use crate::calls::{Observed, observed_of};
+use crate::calls::{Observed, flag, observed_of};
 use crate::codes::Fault;
 use crate::put::WithBytes;
 use hw_codec::{decode_vertex, digest_of};
 use hw_core::{Core, Place};
-use hw_dag::{Dag, UnitNo};
+use hw_dag::UnitNo;
 use hw_types::{Bytes, Digest, Obs, OutOfMemory, Vertex, WireUnit};
 use std::alloc::Global;
 
@@ -51,12 +54,6 @@ pub struct UnitFacts {
     pub vote: [u8; 32],
 }
 
-fn number_of(is: bool) -> u32
-    ensures { result ≡ flag is }
-{
-    if is { 1 } else { 0 }
-}
-
 /// When the round of that moment and exponent begins. It is 0 for a round that is longer than all time.
 fn round_of(time: u64, exponent: u8) -> u64
     ensures { result ≡ round_id time exponent }
@@ -84,7 +81,7 @@ fn said_by(core: &Core, unit: &WireUnit, name: &Digest) -> UnitFacts
         exponent: u32::from(unit.exponent),
         leader: core.state().leaders().leader(round),
         place: 0,
-        is_block: number_of(unit.value.is_some()),
+        is_block: flag(unit.value.is_some()),
         has_parent: 0,
         has_vote: 0,
         endorsed: unit.endorsed.len() as u32,
@@ -99,11 +96,12 @@ fn said_by(core: &Core, unit: &WireUnit, name: &Digest) -> UnitFacts
     }
 }
 
-/// What it says, with what the graph has worked out about the unit of this number.
-fn with_settled(dag: &Dag, no: UnitNo, said: UnitFacts) -> UnitFacts
-    requires { no.0 < count_of dag.now }
-    ensures { result ≡ settled_of dag.now no said }
+/// What a unit says, with what the node has worked out about the settled unit of this number.
+fn with_settled(core: &Core, no: UnitNo, said: UnitFacts) -> UnitFacts
+    requires { no.0 < length (settled_in core.now) }
+    ensures { (x : Node) → slice_get (order_in core.now) no.0 ≡ Some x → result ≡ settled_facts core.now x said }
 {
+    let dag = core.state().dag();
     let unit = dag.unit(no);
     let mut facts = said;
     facts.place = 1;
@@ -118,7 +116,7 @@ fn with_settled(dag: &Dag, no: UnitNo, said: UnitFacts) -> UnitFacts
 }
 
 /// The bytes of a unit's value: none where it has no value.
-fn value_of(alloc: Global, unit: &WireUnit) -> Result<Bytes, OutOfMemory>
+pub fn value_of(alloc: Global, unit: &WireUnit) -> Result<Bytes, OutOfMemory>
     ensures { IfOk result (λ bytes. bytes ≡ value_bytes unit.now) }
 {
     match &unit.value {
@@ -153,7 +151,7 @@ pub fn unit_facts(
     };
     let said = said_by(core, &signed.unit, &name);
     let value = match core.place_of(&name) {
-        Place::Settled(no) => with_settled(core.state().dag(), no, said),
+        Place::Settled(no) => with_settled(core, no, said),
         Place::Parked(_) => placed(said, 2),
         Place::Dropped(_) => placed(said, 3),
         Place::Unknown => said,

@@ -16,13 +16,15 @@ ghost use Rattle.hw_c.specs.declared.calls.Observed.{Observed};
 ghost use Rattle.hw_c.specs.declared.calls.Placed.{Placed};
 ghost use Rattle.hw_c.specs.declared.calls.Summary.{Summary};
 ghost use Rattle.hw_c.specs.declared.codes.Fault.{Fault};
+ghost use Rattle.hw_c.specs.declared.facts.UnitFacts.{UnitFacts};
 ghost use Rattle.hw_c.specs.declared.light.Judged.{Judged};
 ghost use Rattle.hw_c.specs.declared.put.WithBytes.{WithBytes};
 ghost use Rattle.hw_c.specs.declared.signed.Signed.{Signed};
 ghost use Rattle.hw_c.specs.declared.steps.Planned.{Planned};
 ghost use Rattle.hw_c.specs.Audits.{IsAudit};
 ghost use Rattle.hw_c.specs.Buffers.{IsWritten, IsPutWithBytes};
-ghost use Rattle.hw_c.specs.Calls.{IsSigned, IsEntry, IsSummary, IsObserved, IsPlaced, IsDecided, IsUnmet, IsWithSignature};
+ghost use Rattle.hw_c.specs.Calls.{IsSigned, IsEntry, IsSummary, IsObserved, IsPlaced, IsDecided, AreFaulty, IsUnmet, IsWithSignature, IsEndorsement};
+ghost use Rattle.hw_c.specs.Facts.{IsUnitFacts, IsSpelledFacts};
 ghost use Rattle.hw_c.specs.Handles.{Begins, Ends, Delivers, Reads, ReadsBoth};
 ghost use Rattle.hw_c.specs.Light.{IsCertificate, AreCertifiedSigned, IsJudged};
 ghost use Rattle.hw_c.specs.Needed.{IsForNeed};
@@ -35,6 +37,7 @@ mod calls;
 mod codes;
 mod content;
 mod deliveries;
+mod facts;
 mod handle;
 mod held;
 mod light;
@@ -49,10 +52,11 @@ mod steps;
 pub use audits::Audited;
 pub use calls::{Decided, Observed, Placed, Summary};
 pub use codes::Answer;
+pub use facts::UnitFacts;
 pub use handle::Handle;
 pub use light::Judged;
 pub use needs::Missing;
-use put::{put, put_both, put_bytes, put_bytes_with, put_done, put_with};
+use put::{put, put_both, put_both_with, put_bytes, put_bytes_with, put_done, put_with};
 pub use sent::{Delivered, Sent};
 pub use settings::Settings;
 pub use signed::{Signed, Signer};
@@ -181,6 +185,42 @@ pub extern "C" fn hw_place(
     put(outcome, placed)
 }
 
+/// What the journal's unit of this digest is: what it says, what became of it, and where it is settled its vote, parent
+/// and height. As many bytes of its value as fit go into the buffer, and as many of its observations into the list.
+#[unsafe(no_mangle)]
+pub extern "C" fn hw_unit(
+    alloc: Global,
+    core: &mut Handle,
+    digest: &[u8; 32],
+    facts: &mut UnitFacts,
+    list: &mut [Observed],
+    buf: &mut [u8],
+) -> u32
+    ensures read { (r : Result (WithBytes UnitFacts) Fault) × Reads (λ c. IsUnitFacts c digest.now list.old list.new) core.old.held r core.new.held × IsPutWithBytes r facts.old facts.new buf.old buf.new × (result ≡ status r) }
+    ensures empty { core.old.held ≡ None → list.new ≡ list.old }
+{
+    let outcome = core.read_unit(alloc, digest, list);
+    put_both(outcome, facts, buf)
+}
+
+/// What the unit of the vertex that the bytes spell says, whether or not the node has it, with its round and the leader
+/// of that. As many bytes of its value as fit go into the buffer, and as many of its observations into the list.
+#[unsafe(no_mangle)]
+pub extern "C" fn hw_spelled_unit(
+    alloc: Global,
+    core: &mut Handle,
+    vertex: &[u8],
+    facts: &mut UnitFacts,
+    list: &mut [Observed],
+    buf: &mut [u8],
+) -> u32
+    ensures read { (r : Result (WithBytes UnitFacts) Fault) × Reads (λ c. IsSpelledFacts c.config vertex.now list.old list.new) core.old.held r core.new.held × IsPutWithBytes r facts.old facts.new buf.old buf.new × (result ≡ status r) }
+    ensures empty { core.old.held ≡ None → list.new ≡ list.old }
+{
+    let outcome = core.read_spelled(alloc, vertex, list);
+    put_both(outcome, facts, buf)
+}
+
 /// The decided block of that place.
 #[unsafe(no_mangle)]
 pub extern "C" fn hw_decision(
@@ -193,6 +233,21 @@ pub extern "C" fn hw_decision(
 {
     let outcome = core.read_decided(alloc, index);
     put(outcome, decided)
+}
+
+/// The faulty validators in rising order, as many as fit. The count is that of all of them.
+#[unsafe(no_mangle)]
+pub extern "C" fn hw_faulty(
+    alloc: Global,
+    core: &mut Handle,
+    list: &mut [u32],
+    count: &mut usize,
+) -> u32
+    ensures read { (r : Result ℕ Fault) × Reads (λ c. AreFaulty c list.old list.new) core.old.held r core.new.held × Puts r count.old count.new result }
+    ensures empty { core.old.held ≡ None → list.new ≡ list.old }
+{
+    let outcome = core.read_faulty(alloc, list);
+    put(outcome, count)
 }
 
 /// The first needs that parked units miss, as many as fit. The count says how many that are.
@@ -259,6 +314,22 @@ pub extern "C" fn hw_with_signature(
     put_bytes_with(outcome, buf, len, answer)
 }
 
+/// The vertex of the validator's endorsement of the unit of this digest, with its signature, as bytes.
+#[unsafe(no_mangle)]
+pub extern "C" fn hw_endorsement(
+    alloc: Global,
+    endorser: u32,
+    unit: &[u8; 32],
+    signature: &[u8; 32],
+    buf: &mut [u8],
+    len: &mut usize,
+) -> u32
+    ensures { (r : Result (List ℕ) Fault) × IsEndorsement endorser unit.now signature.now r × IsWritten r buf.old buf.new len.old len.new × (result ≡ status r) }
+{
+    let outcome = signed::endorsement(alloc, endorser, unit, signature);
+    put_bytes(outcome, buf, len)
+}
+
 /// Audits the journals of two nodes against each other, and writes the result as text too. The two handles must
 /// be different ones.
 #[unsafe(no_mangle)]
@@ -306,17 +377,19 @@ pub extern "C" fn hw_certified(
     put_with(outcome, count, answer)
 }
 
-/// The answer to the certificate that the bytes spell, with these verdicts on the signatures of its vertices.
+/// The answer to the certificate that the bytes spell, with these verdicts on the signatures of its vertices: 0 no, 1
+/// yes. After a yes as many bytes of the block's value as fit go into the buffer.
 #[unsafe(no_mangle)]
 pub extern "C" fn hw_check(
     alloc: Global,
     certificate: &[u8],
-    verdicts: &[bool],
+    verdicts: &[u32],
     judged: &mut Judged,
+    buf: &mut [u8],
     answer: &mut Answer,
 ) -> u32
-    ensures { (r : Result Judged Fault) × IsJudged certificate.now verdicts.now r × PutsWith r judged.old judged.new answer.new result }
+    ensures { (r : Result (WithBytes Judged) Fault) × IsJudged certificate.now verdicts.now r × IsPutWithBytes r judged.old judged.new buf.old buf.new × (result ≡ status r) × (answer.new ≡ behind r) }
 {
     let outcome = light::judgement(alloc, certificate, verdicts);
-    put_with(outcome, judged, answer)
+    put_both_with(outcome, judged, buf, answer)
 }

@@ -134,6 +134,31 @@ pub fn put_both<T: Copy>(outcome: Result<WithBytes<T>, Fault>, out: &mut T, buf:
     }
 }
 
+/// The same, and puts the details of the status.
+pub fn put_both_with<T: Copy>(
+    outcome: Result<WithBytes<T>, Fault>,
+    out: &mut T,
+    buf: &mut [u8],
+    answer: &mut Answer,
+) -> u32
+    ensures status { result ≡ status outcome }
+    ensures put { IsPutWithBytes outcome out.old out.new buf.old buf.new }
+    ensures answer { answer.new ≡ behind outcome }
+{
+    match outcome {
+        Ok(WithBytes { value, bytes }) => {
+            *out = value;
+            copy_bytes(bytes.as_slice(), buf);
+            *answer = blank();
+            OK
+        }
+        Err(fault) => {
+            *answer = answer_of(fault);
+            status_of(fault)
+        }
+    }
+}
+
 /// The same as `put_bytes`, and puts the details of the status.
 pub fn put_bytes_with(
     outcome: Result<Bytes, Fault>,
