@@ -37,6 +37,7 @@ mod status;
 mod step;
 #[allow(unsafe_code)]
 mod sys;
+mod unit;
 
 pub use config::{Leaders, Settings};
 pub use core::{Core, Decision, Decisions, Journal, Observation, Place, Receipt, Refusal, Sent, Summary};
@@ -46,6 +47,7 @@ pub use need::Need;
 pub use rule::Rule;
 pub use signatures::{Signature, Signatures};
 pub use step::{Plan, PlanKind};
+pub use unit::{Unit, UnitState, endorsement};
 
 use std::fmt;
 
