@@ -30,6 +30,7 @@ STRUCTS = {
     "hw_signatures": "Signed",
     "hw_signer": "Signer",
     "hw_summary_of": "Summary",
+    "hw_unit_facts": "UnitFacts",
 }
 TYPES = {"uint8_t": "u8", "uint32_t": "u32", "uint64_t": "u64", "size_t": "usize", "bool": "bool", **STRUCTS}
 
