@@ -20,6 +20,9 @@
 extern "C" {
 #endif
 
+/* The version of this header: of 1.2.3 the number 0x010203. hw_version() says that of the library. */
+#define HW_VERSION 0x000200
+
 /* A place for a node: null while there is none. */
 typedef struct { void *at; } hw_core;
 
@@ -110,6 +113,12 @@ typedef struct {
   uint64_t seq, time, round, height, length;
   uint8_t digest[32], parent[32], vote[32];
 } hw_unit_facts;
+
+/* The version that the library was built with: HW_VERSION of its own header. */
+uint32_t hw_version(void);
+
+/* The SHA-256 digest of the bytes. */
+uint32_t hw_sha256(const uint8_t *bytes, size_t bytes_len, uint8_t digest[32]);
 
 /* ---- configurations and nodes */
 

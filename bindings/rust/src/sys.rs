@@ -57,6 +57,8 @@ mod exports {
     use super::{RawHandle, Sent, Settings, Signed, Summary, UnitFacts};
 
     unsafe extern "C" {
+        pub fn hw_version() -> u32;
+        pub fn hw_sha256(bytes: *const u8, len: usize, digest: *mut [u8; 32]) -> u32;
         pub fn hw_config(
             settings: *const Settings, weights: *const u64, validators: usize, table: *const u32, entries: usize,
             buf: *mut u8, room: usize, len: *mut usize, answer: *mut Answer,
@@ -333,6 +335,20 @@ impl Drop for Handle {
         // SAFETY: the handle isn't used again.
         unsafe { exports::hw_core_free(self.place.get_mut()) };
     }
+}
+
+/// The version that the library was built with.
+pub fn version() -> u32 {
+    // SAFETY: the call takes nothing.
+    unsafe { exports::hw_version() }
+}
+
+pub fn sha256(bytes: &[u8]) -> [u8; 32] {
+    let mut digest = [0; 32];
+    // SAFETY: all pointers are of borrows that last for the call.
+    let status = unsafe { exports::hw_sha256(bytes.as_ptr(), bytes.len(), &mut digest) };
+    assert_eq!(status, OK, "a digest takes no memory");
+    digest
 }
 
 pub fn config(settings: &Settings, weights: &[u64], table: &[u32]) -> Result<Vec<u8>, Error> {

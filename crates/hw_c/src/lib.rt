@@ -10,6 +10,7 @@
 #![tactic(auto)]
 
 ghost use Rattle.std.specs.Prelude.{◌≡◌, ℕ, List, Result, None};
+ghost use Rattle.sha2.specs.Sha256.{sha256};
 ghost use Rattle.hw_c.specs.declared.audits.Audited.{Audited};
 ghost use Rattle.hw_c.specs.declared.calls.Decided.{Decided};
 ghost use Rattle.hw_c.specs.declared.calls.Observed.{Observed};
@@ -60,8 +61,30 @@ use put::{put, put_both, put_both_with, put_bytes, put_bytes_with, put_done, put
 pub use sent::{Delivered, Sent};
 pub use settings::Settings;
 pub use signed::{Signed, Signer};
+use sha2::{Digest as _, Sha256};
 use std::alloc::Global;
 pub use steps::Planned;
+
+/// The version of these declarations: of 1.2.3 the number 0x010203.
+pub const VERSION: u32 = 0x000200;
+
+/// The version that the library was built with.
+#[unsafe(no_mangle)]
+pub extern "C" fn hw_version(_alloc: Global) -> u32
+    ensures { result ≡ 512 }
+{
+    VERSION
+}
+
+/// The SHA-256 digest of the bytes.
+#[unsafe(no_mangle)]
+pub extern "C" fn hw_sha256(_alloc: Global, bytes: &[u8], digest: &mut [u8; 32]) -> u32
+    ensures digest { digest.new ≡ sha256 bytes.now }
+    ensures status { result ≡ 0 }
+{
+    *digest = Sha256::digest(bytes);
+    codes::OK
+}
 
 /// Spells the configuration with these fields as bytes.
 #[unsafe(no_mangle)]
