@@ -69,6 +69,13 @@ vote_in c x = vote_of (unit_fork c.config.weights (settled_in c)) x
 abbrev pub height_in : CoreState → Node → ℕ
 height_in c x = if is_block x then height_of c.config.weights (settled_in c) x else 0
 
+-- the digest is that of the unit's vote, or of its parent, where it has one
+abbrev pub IsVoteOf : CoreState → Node → Digest → Type 0
+IsVoteOf c x d = Some d ≡ option_map (λ (u : Node). u.digest) (vote_in c x)
+
+abbrev pub IsParentOf : CoreState → Node → Option Digest → Type 0
+IsParentOf c x d = d ≡ option_map (λ (u : Node). u.digest) (parent_in c x)
+
 -- what the unit says, with its vote, and its parent and height where it is a block
 abbrev pub settled_facts : CoreState → Node → UnitFacts → UnitFacts
 settled_facts c x said = record said {

@@ -149,7 +149,8 @@ pub fn flag(holds: bool) -> u32
     if holds { 1 } else { 0 }
 }
 
-fn digest_bytes(digest: Option<Digest>) -> [u8; 32]
+/// The bytes of a digest, or zeros where there is none.
+pub fn digest_bytes(digest: Option<Digest>) -> [u8; 32]
     ensures { result ≡ digest_bytes digest }
 {
     match digest {

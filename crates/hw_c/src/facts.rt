@@ -8,9 +8,9 @@ ghost use Rattle.hw_types.specs.Spelling.{Fits};
 ghost use Rattle.hw_core.specs.Order.{order_in};
 ghost use Rattle.hw_c.specs.Answers.{flag, observed_of};
 ghost use Rattle.hw_c.specs.Buffers.{copied};
-ghost use Rattle.hw_c.specs.Facts.{said_of, settled_facts, value_bytes, IsUnitFacts, IsSpelledFacts};
+ghost use Rattle.hw_c.specs.Facts.{said_of, settled_facts, height_in, IsVoteOf, IsParentOf, value_bytes, IsUnitFacts, IsSpelledFacts};
 
-use crate::calls::{Observed, flag, observed_of};
+use crate::calls::{Observed, digest_bytes, flag, observed_of};
 use crate::codes::Fault;
 use crate::put::WithBytes;
 use hw_codec::{decode_vertex, digest_of};
@@ -96,23 +96,55 @@ fn said_by(core: &Core, unit: &WireUnit, name: &Digest) -> UnitFacts
     }
 }
 
+/// The block that the settled unit of this number votes for.
+fn vote_of(core: &Core, no: UnitNo) -> Digest
+    requires { no.0 < length (settled_in core.now) }
+    ensures { (x : Node) → slice_get (order_in core.now) no.0 ≡ Some x → IsVoteOf core.now x result }
+{
+    let dag = core.state().dag();
+    *dag.unit(dag.unit(no).vote()).digest()
+}
+
+/// The block that the settled unit of this number stands on, where it is a block and has one.
+fn parent_of(core: &Core, no: UnitNo) -> Option<Digest>
+    requires { no.0 < length (settled_in core.now) }
+    ensures { (x : Node) → slice_get (order_in core.now) no.0 ≡ Some x → IsParentOf core.now x result }
+{
+    let dag = core.state().dag();
+    match dag.unit(no).parent() {
+        Some(parent) => Some(*dag.unit(parent).digest()),
+        None => None,
+    }
+}
+
+/// How many blocks are below the settled unit of this number on its chain, where it is a block; else 0.
+fn height_of(core: &Core, no: UnitNo) -> u64
+    requires { no.0 < length (settled_in core.now) }
+    ensures { (x : Node) → slice_get (order_in core.now) no.0 ≡ Some x → result ≡ height_in core.now x }
+{
+    core.state().dag().unit(no).height().unwrap_or(0)
+}
+
 /// What a unit says, with what the node has worked out about the settled unit of this number.
 fn with_settled(core: &Core, no: UnitNo, said: UnitFacts) -> UnitFacts
     requires { no.0 < length (settled_in core.now) }
     ensures { (x : Node) → slice_get (order_in core.now) no.0 ≡ Some x → result ≡ settled_facts core.now x said }
 {
-    let dag = core.state().dag();
-    let unit = dag.unit(no);
-    let mut facts = said;
-    facts.place = 1;
-    facts.has_vote = 1;
-    facts.vote = dag.unit(unit.vote()).digest().0;
-    facts.height = unit.height().unwrap_or(0);
-    if let Some(parent) = unit.parent() {
-        facts.has_parent = 1;
-        facts.parent = dag.unit(parent).digest().0;
+    let vote = vote_of(core, no);
+    let parent = parent_of(core, no);
+    let height = height_of(core, no);
+    let has_parent = flag(parent.is_some());
+    let parent = digest_bytes(parent);
+    let vote = vote.0;
+    UnitFacts {
+        place: 1,
+        has_vote: 1,
+        vote,
+        has_parent,
+        parent,
+        height,
+        ..said
     }
-    facts
 }
 
 /// The bytes of a unit's value: none where it has no value.
