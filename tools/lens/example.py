@@ -2,8 +2,8 @@
 from dataclasses import replace
 
 from lens.log import (
-    Config, Endorsement, Evidence, SignedUnit, Unit, digest_of, endorsement_signature, spelled_config, unit_signature,
-    with_digest)
+    Config, Endorsement, Evidence, SignedUnit, StandIn, Unit, digest_of, endorsement_signature, spelled_config,
+    unit_signature, with_digest)
 
 EXAMPLE = """
 a0 by 0 at 16 cites - - - - block x
@@ -31,7 +31,7 @@ def make_config(weights, threshold, **others):
 
 def sample_keys(count):
     """Keys of a test network for so many validators."""
-    return [digest_of(b"key %d" % who) for who in range(count)]
+    return StandIn(digest_of(b"key %d" % who) for who in range(count))
 
 
 def clauses(words):

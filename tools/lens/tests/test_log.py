@@ -5,7 +5,8 @@ import unittest
 
 from lens.example import EXAMPLE_ORDER, make_config, running_example, sample_keys
 from lens.log import (
-    CodecError, Cursor, InputError, Lasts, LogReader, SignedUnit, Unit, config_fault, is_signed, read_as_far,
+    CodecError, Cursor, InputError, Lasts, LogReader, SignedUnit, StandIn, Unit, config_fault, is_signed,
+    read_as_far,
     read_config, read_full, read_head, read_keys, read_log, read_unit, spelled_config, spelled_log, spelled_unit,
     spelled_vertex, with_digest)
 
@@ -237,8 +238,8 @@ class Keys(Files):
         world = running_example()
         for word in ("a0", "d0/f0", "b2:1"):
             self.assertTrue(is_signed(world.vertex(word), world.keys))
-            self.assertFalse(is_signed(world.vertex(word), world.keys[::-1]))
-            self.assertFalse(is_signed(world.vertex(word), []))
+            self.assertFalse(is_signed(world.vertex(word), StandIn(world.keys[::-1])))
+            self.assertFalse(is_signed(world.vertex(word), StandIn()))
         stranger = world.signed(with_digest(Unit(world.config.instance, 7, 0, 16, 4, ("-",) * 4, b"x", ())))
         self.assertIsInstance(stranger, SignedUnit)
         self.assertFalse(is_signed(stranger, world.keys))
