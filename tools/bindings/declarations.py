@@ -166,6 +166,7 @@ def version_faults(top=TOP):
         "bindings/c/highway.h": rf"^#define HW_VERSION {number}$",
         "bindings/c/highway.pc.in": rf"^Version: {re.escape(version)}$",
         "bindings/rust/Cargo.toml": rf'^version = "{re.escape(version)}"$',
+        "bindings/ed25519/Cargo.toml": rf'^version = "{re.escape(version)}"$',
         "CHANGELOG.md": rf"^## {re.escape(version)}$",
     }
     return [
