@@ -9,17 +9,23 @@ use Rattle.hw_types.specs.Real.{CoreState, settled_in}
 use Rattle.hw_types.specs.Votes.{is_block, vote_of, unit_fork, height_of}
 use Rattle.hw_dag.specs.declared.numbers.UnitNo.{UnitNo}
 use Rattle.hw_dag.specs.Dag.{SettledUnit, UnitGraph, node_of, node_at, unit_at, count_of, stand_in, graph}
-use Rattle.hw_dag.specs.Admission.{IsGraph}
+use Rattle.hw_dag.specs.Admission.{IsGraph, height_above}
 use Rattle.hw_dag.specs.Lanes.{AreWeights}
 use Rattle.hw_admit.specs.State.{NodeState}
+use Rattle.hw_dag.proofs.DepthLaws.{parent_earlier}
 use Rattle.hw_forks.proofs.DefinedLaws.{node_for, parent_at, vote_at}
 use Rattle.hw_horizon.proofs.NumberLaws.{tall_is}
 use Rattle.hw_core.specs.Settle.{admitted_in}
+use Rattle.hw_core.proofs.CountLaws.{graph_length}
 use Rattle.hw_core.specs.Order.{order_in}
 use Rattle.hw_c.specs.Facts.{parent_in, vote_in, height_in, IsVoteOf, IsParentOf}
 
 of_some : (x y : Node) → Some x ≡ Some y → x ≡ y
 of_some x y h = cc
+
+-- each number of a settled unit is one of the graph
+pub known_number : (c : CoreState) (dag : UnitGraph) (n : ℕ) → graph dag ≡ settled_in c → IsGraph dag → n < length (settled_in c) → n < count_of dag
+known_number c dag n settled g less = let same : length (graph dag) ≡ length (settled_in c) = ap (λ (xs : List Node). length xs) settled in let all = graph_length dag g in omega arith
 
 -- the graph has the unit of that place in the order of settling under its number
 pub at_its_number : (c : CoreState) (s : NodeState) (n : ℕ) (x : Node) → admitted_in s ≡ order_in c → slice_get (order_in c) n ≡ Some x → n < count_of s.dag → node_at s.dag n ≡ x
@@ -43,6 +49,9 @@ module _ (c : CoreState) (dag : UnitGraph) (weights : List ℕ) (weights_are : w
 
       go : (b : Bool) → is_block (node_at dag n) ≡ b → IsVoteOf c (node_at dag n) (unit_at dag (unit_at dag n).vote.0).digest
       go b e = ap name (said ∙ ap (λ (f : Option Node). if is_block (node_at dag n) then Some (node_at dag n) else f) (fork_is (node_at dag n)))
+
+  pub parent_known : (n : ℕ) (p : UnitNo) → n < count_of dag → (unit_at dag n).parent ≡ Some p → p.0 < count_of dag
+  parent_known n p lt e = let less = parent_earlier dag g n p lt e in omega arith
 
   pub parent_is : (n : ℕ) → n < count_of dag → IsParentOf c (node_at dag n) (option_map (λ (p : UnitNo). (unit_at dag p.0).digest) (unit_at dag n).parent)
   parent_is n lt = go (is_block (node_at dag n)) refl
@@ -72,5 +81,9 @@ module _ (c : CoreState) (dag : UnitGraph) (weights : List ℕ) (weights_are : w
 
       go : (b : Bool) → is_block (node_at dag n) ≡ b → (h : Option ℕ) → (unit_at dag n).height ≡ h → unwrap_or (unit_at dag n).height 0 ≡ height_in c (node_at dag n)
       go true t (Some h) e = ap (λ (o : Option ℕ). unwrap_or o 0) e ∙ sym (tall_is weights dag g aw n h lt t e) ∙ tall ∙ ap (λ (b : Bool). pick b (height_of c.config.weights (settled_in c) (node_at dag n))) (sym t)
-      go true t None e = absurd cc
-      go false f h e = ap (λ (o : Option ℕ). unwrap_or o 0) ((g.settled n lt).height_is) ∙ omega arith
+      go true t None e =
+          let tall : Some (height_above dag (unit_at dag n).parent) ≡ None = sym ((g.settled n lt).height_is ∙ ap (λ (b : Bool). if b then Some (height_above dag (unit_at dag n).parent) else None) t) ∙ e in
+          absurd cc
+      go false f h e =
+          ap (λ (o : Option ℕ). unwrap_or o 0) ((g.settled n lt).height_is ∙ ap (λ (b : Bool). if b then Some (height_above dag (unit_at dag n).parent) else None) f)
+          ∙ ap (λ (b : Bool). pick b (height_of c.config.weights (settled_in c) (node_at dag n))) (sym f)

@@ -1,6 +1,6 @@
 -- What each call answers about a node, or about bytes.
 -- Source: ours.
-use Rattle.std.specs.Prelude.{◌≡◌, ℕ, ◌<◌, ◌≤◌, Bool, List, [], ◌++◌, length, map, filter, take, drop, slice_get, Some, None, Result, Ok, Err}
+use Rattle.std.specs.Prelude.{◌≡◌, ℕ, ◌<◌, ◌≤◌, Bool, List, [], ◌++◌, length, map, take, drop, slice_get, Some, None, Result, Ok, Err}
 use Rattle.hw_types.specs.declared.unit.WireUnit.{WireUnit}
 use Rattle.hw_types.specs.declared.unit.Vertex.{Vertex}
 use Rattle.hw_types.specs.declared.unit.Vertex.TheVariants as vertex
@@ -10,8 +10,7 @@ use Rattle.hw_types.specs.declared.answers.Decision.{Decision}
 use Rattle.hw_types.specs.Graph.{slot}
 use Rattle.hw_types.specs.Limits.{config_fault}
 use Rattle.hw_types.specs.Reading.{config_of, unit_of, vertex_of}
-use Rattle.hw_types.specs.Real.{CoreState, answer_in, after_in, panorama_in, received_in, settled_in}
-use Rattle.hw_types.specs.Settled.{validators, is_faulty}
+use Rattle.hw_types.specs.Real.{CoreState, answer_in, after_in, panorama_in, received_in}
 use Rattle.hw_types.specs.Spelling.{SpellsVertex}
 use Rattle.hw_codec.specs.Decoded.{IsErrorOf}
 use Rattle.hw_core.specs.declared.place.Place.{Place}
@@ -26,6 +25,7 @@ use Rattle.hw_c.specs.declared.calls.Observed.{Observed}
 use Rattle.hw_c.specs.declared.calls.Placed.{Placed}
 use Rattle.hw_c.specs.declared.calls.Decided.{Decided}
 use Rattle.hw_c.specs.declared.needs.Missing.{Missing}
+use Rattle.hw_explain.specs.Report.{faulty_in}
 use Rattle.hw_c.specs.Buffers.{copied}
 use Rattle.hw_c.specs.Answers.{signed_of, summary_of, observed_of, placed_of, decided_of, missing_of}
 
@@ -110,11 +110,7 @@ abbrev pub IsUnmet : CoreState → List Missing → List Missing → Result ℕ 
 IsUnmet c old new (Ok count) = (count ≤ length old) × (new ≡ map missing_of (take (length old) (unmet_in c)) ++ drop count old)
 IsUnmet c old new (Err f) = IsWant f × (new ≡ old)
 
--- the validators that are faulty in the node's view: with evidence against them, or with two settled units of one number
-abbrev pub faulty_in : CoreState → List ℕ
-faulty_in c = filter (is_faulty (received_in c) (settled_in c)) (validators c.config)
-
 -- The faulty validators, as many as fit, and after them what was there before. The count is that of all of them.
 abbrev pub AreFaulty : CoreState → List ℕ → List ℕ → Result ℕ Fault → Type 0
-AreFaulty c old new (Ok count) = (count ≡ length (faulty_in c)) × (new ≡ copied (faulty_in c) old)
-AreFaulty c old new (Err f) = ⊥
+AreFaulty c old new (Ok count) = (count ≡ length (faulty_in c.config (received_in c))) × (new ≡ copied (faulty_in c.config (received_in c)) old)
+AreFaulty c old new (Err f) = IsWant f × (new ≡ old)

@@ -12,7 +12,10 @@ use Rattle.hw_types.specs.Step.{is_earlier, may_not_step}
 use Rattle.hw_types.specs.Votes.{fork_of}
 use Rattle.hw_c.specs.declared.codes.Fault.{Fault}
 use Rattle.hw_c.specs.declared.codes.Fault.TheVariants as fault
+use Rattle.hw_types.specs.declared.config.Config.{Config}
+use Rattle.hw_dag.specs.Dag.{UnitGraph, unit_at, count_of}
 use Rattle.hw_c.specs.declared.due.Due.{Due}
+use Rattle.hw_c.specs.declared.due.Moment.{Moment}
 use Rattle.hw_c.specs.Answers.{flag, plan_number}
 use Rattle.hw_c.specs.Calls.{IsWant}
 use Rattle.hw_c.specs.Facts.{name_bytes}
@@ -85,3 +88,18 @@ abbrev pub IsDue : CoreState → ℕ → ℕ → Result Due Fault → Type 0
 IsDue c me now (Ok d) = IsDueNow c me now d
 IsDue c me now (Err fault.OutOfRange) = (length c.config.weights ≤ me) ⊎ (2 ^ 63 ≤ now)
 IsDue c me now (Err f) = IsWant f
+
+-- ---- in the making of the answer
+
+-- the moment, its round of the least exponent with the witness time, and the leader of that
+pub record IsMomentOf (config : Config) (now : ℕ) (m : Moment) : Type 0 where
+  pub now_is : m.now ≡ now
+  pub round_is : m.round ≡ round_id now config.min_exponent
+  pub witness_is : m.witness ≡ witness_time m.round config.min_exponent
+  pub leader_is : m.leader ≡ leader_of config m.round
+
+-- no settled unit has a time between the moment and the first, which is no later than the end
+pub record IsFirstLater (dag : UnitGraph) (now end first : ℕ) : Type 0 where
+  pub later : now < first
+  pub within : first ≤ end
+  pub none : (n : ℕ) → n < count_of dag → now < (unit_at dag n).signed.unit.time → first ≤ (unit_at dag n).signed.unit.time

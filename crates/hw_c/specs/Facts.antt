@@ -87,12 +87,12 @@ settled_facts c x said = record said {
   height = height_in c x;
 }
 
--- what the journal's unit is, by what became of it: 1 settled, 2 parked, 3 dropped
-abbrev pub facts_in : CoreState → SignedUnit → Place → UnitFacts
-facts_in c u (place.Settled number) = settled_facts c (node_in c u) (said_of c.config u.unit (digest_of u.unit))
-facts_in c u (place.Parked missing) = record (said_of c.config u.unit (digest_of u.unit)) { place = 2 }
-facts_in c u (place.Dropped rule) = record (said_of c.config u.unit (digest_of u.unit)) { place = 3 }
-facts_in c u place.Unknown = said_of c.config u.unit (digest_of u.unit)
+-- what the journal's unit of this name is, by what became of it: 1 settled, 2 parked, 3 dropped
+abbrev pub facts_in : CoreState → Digest → SignedUnit → Place → UnitFacts
+facts_in c d u (place.Settled number) = settled_facts c (node_in c u) (said_of c.config u.unit d)
+facts_in c d u (place.Parked missing) = record (said_of c.config u.unit d) { place = 2 }
+facts_in c d u (place.Dropped rule) = record (said_of c.config u.unit d) { place = 3 }
+facts_in c d u place.Unknown = said_of c.config u.unit d
 
 -- what the unit observes of each validator: as many as fit, and after them what was there before
 abbrev pub IsObservedBy : WireUnit → List Observed → List Observed → Type 0
@@ -102,7 +102,7 @@ IsObservedBy u old new = new ≡ copied (map observed_of u.panorama) old
 abbrev pub IsUnitFacts : CoreState → List ℕ → List Observed → List Observed → Result (WithBytes UnitFacts) Fault → Type 0
 IsUnitFacts c digest old new (Ok both) =
     (u : SignedUnit) × (became : Place) × (unit_in c (record { 0 = digest }) ≡ Some u) × IsPlace c (record { 0 = digest }) became
-    × (both.value ≡ facts_in c u became) × (both.bytes ≡ value_bytes u.unit) × IsObservedBy u.unit old new
+    × (both.value ≡ facts_in c (record { 0 = digest }) u became) × (both.bytes ≡ value_bytes u.unit) × IsObservedBy u.unit old new
 IsUnitFacts c digest old new (Err fault.Nothing) = (unit_in c (record { 0 = digest }) ≡ None) × (new ≡ old)
 IsUnitFacts c digest old new (Err f) = IsWant f × (new ≡ old)
 

@@ -1,7 +1,7 @@
 -- What calls answer about certificates.
 -- Source: ours.
-use Rattle.std.specs.Prelude.{◌≡◌, ◌≢◌, ◌⊎◌, ℕ, ◌≤◌, ◌==◌, Bool, List, [], length, map, sum, Option, Some, None, Result, Ok, Err}
-use Rattle.std.specs.List.{All}
+use Rattle.std.specs.Prelude.{◌≡◌, ◌≢◌, ℕ, ◌≤◌, ◌==◌, nat_le, Bool, true, List, [], length, map, sum, Option, Some, None, Result, Ok, Err}
+use Rattle.std.specs.List.{list_all}
 use Rattle.hw_types.specs.declared.config.Config.{Config}
 use Rattle.hw_types.specs.declared.unit.Digest.{Digest}
 use Rattle.hw_types.specs.Real.{CoreState}
@@ -82,17 +82,20 @@ abbrev pub HasKeptLimits : Checked → Config → Type 0
 HasKeptLimits (No (fault.Config limit)) config = Unit {0}
 HasKeptLimits checked config = config_fault config ≡ None
 
--- the verdicts that these numbers say, 0 no and 1 yes, or there is another number
-abbrev pub AreVerdicts : List ℕ → Option (List Bool) → Type 0
-AreVerdicts numbers (Some verdicts) = All (λ n. n ≤ 1) numbers × (verdicts ≡ map (λ n. n == 1) numbers)
-AreVerdicts numbers None = All (λ n. n ≤ 1) numbers → ⊥
+-- the verdicts that these numbers say: 1 yes, and another number no
+abbrev pub verdicts_of : List ℕ → List Bool
+verdicts_of numbers = map (λ n. n == 1) numbers
 
--- The answer to the certificate that the bytes spell with these verdicts, and what a yes proves. Or there is another
--- number of verdicts than of vertices, or a verdict that is neither 0 nor 1.
+-- each of the numbers is 0 or 1, and there is one for each vertex
+abbrev pub AreVerdictsOn : Certificate → List ℕ → Type 0
+AreVerdictsOn c numbers = (length numbers ≡ length c.vertices) × (list_all (λ n. nat_le n 1) numbers ≡ true)
+
+-- The answer to the certificate that the bytes spell with these verdicts, and what a yes proves. Or there are other
+-- verdicts than one, 0 or 1, for each vertex.
 abbrev pub IsJudged : List ℕ → List ℕ → Result (WithBytes Judged) Fault → Type 0
 IsJudged bytes numbers (Ok both) =
-    (c : Certificate) × (verdicts : List Bool) × (certificate_of bytes ≡ Ok c) × AreVerdicts numbers (Some verdicts) × (length verdicts ≡ length c.vertices)
-    × ((checked : Checked) × IsAnswer c verdicts checked × IfYes (IsCertified c) checked × IsJudgedAs c checked both)
+    (c : Certificate) × (certificate_of bytes ≡ Ok c) × AreVerdictsOn c numbers
+    × ((checked : Checked) × IsAnswer c (verdicts_of numbers) checked × IfYes (IsCertified c) checked × IsJudgedAs c checked both)
 IsJudged bytes numbers (Err (why.Certificate e)) = IsErrorOf (certificate_of bytes) e
-IsJudged bytes numbers (Err why.OutOfRange) = (c : Certificate) × (certificate_of bytes ≡ Ok c) × ((length numbers ≢ length c.vertices) ⊎ (All (λ n. n ≤ 1) numbers → ⊥))
+IsJudged bytes numbers (Err why.OutOfRange) = (c : Certificate) × (certificate_of bytes ≡ Ok c) × (AreVerdictsOn c numbers → ⊥)
 IsJudged bytes numbers (Err f) = IsWant f

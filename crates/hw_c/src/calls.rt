@@ -10,9 +10,11 @@ ghost use Rattle.hw_c.specs.Calls.{IsNodeOf, IsVertexDelivery, IsDelivery, IsEnt
 ghost use Rattle.hw_c.specs.Named.{IsNameIn};
 
 use crate::codes::Fault;
+use crate::put::copy_all;
 use hw_admit::StateFault;
 use hw_codec::{decode_config, decode_vertex, encode_vertex};
 use hw_core::{Core, Place};
+use hw_explain::faulty;
 use hw_text::rule_number;
 use hw_types::{Bytes, Decision, Digest, Obs, Receipt, Vertex};
 use std::alloc::Global;
@@ -260,18 +262,9 @@ pub fn decision(core: &Core, index: u64) -> Result<Decided, Fault>
 }
 
 /// Puts the faulty validators into the list, in rising order, as many as fit. Answers how many there are in all.
-pub fn faulty(core: &Core, list: &mut [u32]) -> Result<usize, Fault>
+pub fn put_faulty(alloc: Global, core: &Core, list: &mut [u32]) -> Result<usize, Fault>
     ensures { AreFaulty core.now list.old list.new result }
 {
-    let state = core.state();
-    let mut count = 0;
-    'validators: for validator in 0..state.config().weights.len() as u32 {
-        if state.is_faulty(validator) {
-            if count < list.len() {
-                list[count] = validator;
-            }
-            count += 1;
-        }
-    }
-    Ok(count)
+    let found = faulty(alloc, core)?;
+    Ok(copy_all(found.as_slice(), list))
 }

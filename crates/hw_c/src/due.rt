@@ -6,8 +6,11 @@ ghost use Rattle.hw_types.specs.Spelling.{Fits, digest_of};
 ghost use Rattle.hw_dag.specs.Dag.{count_of, graph, unit_at};
 ghost use Rattle.hw_dag.specs.declared.numbers.UnitNo.{UnitNo as Number};
 ghost use Rattle.hw_dag.specs.declared.numbers.View.TheVariants as view;
-ghost use Rattle.hw_c.specs.Due.{IsDue, IsMoment, part_end, part_begin, why_in, IsNextMoment, IsParentOf, IsFirstLater};
+ghost use Rattle.hw_types.specs.Real.{CoreState, settled_in, panorama_in};
+ghost use Rattle.hw_types.specs.Graph.{slot};
+ghost use Rattle.hw_c.specs.Due.{IsDue, IsMomentOf, IsFirstLater};
 
+use crate::calls::{digest_bytes, flag};
 use crate::codes::Fault;
 use crate::steps::planned_unit;
 use hw_admit::State;
@@ -54,7 +57,7 @@ impl Moment {
     /// The moment in the round of the least exponent.
     fn of(state: &State, now: u64) -> Moment
         requires { now < 2 ^ 63 }
-        ensures { IsMoment state.now.config now result }
+        ensures { IsMomentOf state.now.config now result }
     {
         let exponent = state.config().min_exponent;
         let round = round_id(now, exponent);
@@ -190,7 +193,7 @@ fn parent_of(alloc: Global, state: &State, unit: WireUnit) -> Result<Option<Dige
 
 /// What the validator has to make at this moment, and until when that stays so while the journal does. `OutOfRange`
 /// where there is no such validator, or the moment is after the end of time.
-pub fn due(alloc: Global, core: &Core, me: u32, now: u64) -> Result<Due, Fault>
+pub fn due_now(alloc: Global, core: &Core, me: u32, now: u64) -> Result<Due, Fault>
     ensures { IsDue core.now me now result }
 {
     let state = core.state();
@@ -212,10 +215,10 @@ pub fn due(alloc: Global, core: &Core, me: u32, now: u64) -> Result<Due, Fault>
         None => due.why = why(state, me, &moment),
         Some(Plan { kind: PlanKind::Propose, unit }) => {
             due.kind = 0;
-            if let Some(parent) = parent_of(alloc, state, unit)? {
-                due.has_parent = 1;
-                due.parent = parent.0;
-            }
+            let found = parent_of(alloc, state, unit)?;
+            let parent = digest_bytes(found);
+            due.has_parent = flag(found.is_some());
+            due.parent = parent;
         }
         Some(Plan { kind: PlanKind::Confirm, .. }) => due.kind = 1,
         Some(Plan { kind: PlanKind::Witness, .. }) => due.kind = 2,

@@ -12,7 +12,7 @@ ghost use Rattle.hw_c.specs.Facts.{said_of, settled_facts, height_in, IsVoteOf, 
 
 use crate::calls::{Observed, digest_bytes, flag, observed_of};
 use crate::codes::Fault;
-use crate::put::WithBytes;
+use crate::put::{WithBytes, copy_all};
 use hw_codec::{decode_vertex, digest_of};
 use hw_core::{Core, Place};
 use hw_dag::UnitNo;
@@ -157,14 +157,11 @@ pub fn value_of(alloc: Global, unit: &WireUnit) -> Result<Bytes, OutOfMemory>
     }
 }
 
-/// What the unit observes of each validator, as many as there are places for.
-fn put_observed(panorama: &[Obs], list: &mut [Observed])
-    ensures { list.new ≡ copied (map observed_of panorama.now) list.old }
+/// What the unit observes of each validator.
+fn observed_list(alloc: Global, panorama: &[Obs]) -> Result<Vec<Observed>, OutOfMemory>
+    ensures { IfOk result (λ list. list.items ≡ map observed_of panorama.now) }
 {
-    let count = panorama.len().min(list.len());
-    'slots: for k in 0..count {
-        list[k] = observed_of(panorama[k]);
-    }
+    Ok(panorama.iter().map(|seen| observed_of(*seen)).collect(alloc)?)
 }
 
 /// What the journal's unit of this digest is, with its value, and what it observes of each validator. `Nothing` where
@@ -189,7 +186,8 @@ pub fn unit_facts(
         Place::Unknown => said,
     };
     let bytes = value_of(alloc, &signed.unit)?;
-    put_observed(signed.unit.panorama.as_slice(), list);
+    let observed = observed_list(alloc, signed.unit.panorama.as_slice())?;
+    copy_all(observed.as_slice(), list);
     Ok(WithBytes { value, bytes })
 }
 
@@ -217,6 +215,7 @@ pub fn spelled_facts(
     let name = digest_of(alloc, &signed.unit)?;
     let value = said_by(core, &signed.unit, &name);
     let bytes = value_of(alloc, &signed.unit)?;
-    put_observed(signed.unit.panorama.as_slice(), list);
+    let observed = observed_list(alloc, signed.unit.panorama.as_slice())?;
+    copy_all(observed.as_slice(), list);
     Ok(WithBytes { value, bytes })
 }

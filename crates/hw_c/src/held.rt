@@ -142,7 +142,7 @@ impl Handle {
         ensures empty { self.old.held ≡ None → list.new ≡ list.old }
     {
         let node = self.take(alloc)?;
-        self.fill_after(calls::faulty(&node, list), node)
+        self.fill_after(calls::put_faulty(alloc, &node, list), node)
     }
 
     /// The first needs that parked units miss, as many as fit. Answers how many that are.
@@ -186,7 +186,7 @@ impl Handle {
         ensures { Reads (λ c. IsDue c me now) self.old.held result self.new.held }
     {
         let node = self.take(alloc)?;
-        self.fill_after(due::due(alloc, &node, me, now), node)
+        self.fill_after(due::due_now(alloc, &node, me, now), node)
     }
 
     /// The certificate of the decided block of that place, as bytes.

@@ -1,15 +1,15 @@
 //! Certificates: a node makes them, and anyone reads and checks them.
 
-ghost use Rattle.std.specs.{Prelude.{◌≡◌, map, IfOk}, List.{All}};
+ghost use Rattle.std.specs.{Prelude.{◌≡◌, nat_le, map, IfOk}, List.{All, list_all}};
 ghost use Rattle.hw_types.specs.Spelling.{ConfigFits, VertexFits};
 ghost use Rattle.hw_light.specs.Checked.{IsAnswer, IfYes, IsCertified};
 ghost use Rattle.hw_c.specs.Answers.{signed_of};
-ghost use Rattle.hw_c.specs.Light.{unjudged, refused, accepted, value_in, IsJudgedAs, HasKeptLimits, AreVerdicts, IsCertificate, AreCertifiedSigned, IsJudged};
+ghost use Rattle.hw_c.specs.Light.{unjudged, refused, accepted, value_in, IsJudgedAs, HasKeptLimits, verdicts_of, IsCertificate, AreCertifiedSigned, IsJudged};
 ghost use Rattle.hw_light.specs.{CheckedTexts.{height_or_zero}, Asked.{decided_block}};
 
 use crate::codes::{Fault, cause_status, config_status};
 use crate::facts::value_of;
-use crate::put::WithBytes;
+use crate::put::{WithBytes, copy_all};
 use crate::signed::{Signed, signed_of};
 use hw_codec::instance_of;
 use hw_core::Core;
@@ -64,7 +64,7 @@ fn signed_list(alloc: Global, vertices: &[Vertex]) -> Result<Vec<Signed>, OutOfM
 {
     let mut list = Vec::with_capacity(alloc, vertices.len())?;
     'vertices: for vertex in vertices {
-        list.push_reserved(signed_of(alloc, vertex)?);
+        list.push(signed_of(alloc, vertex)?)?;
     }
     Ok(list)
 }
@@ -79,11 +79,8 @@ pub fn certified_signatures(
     ensures { AreCertifiedSigned bytes.now list.old list.new result }
 {
     let certificate = decode_certificate(alloc, bytes)?;
-    let vertices = certificate.vertices.as_slice();
-    let count = vertices.len().min(list.len());
-    let signed = signed_list(alloc, &vertices[..count])?;
-    list[..count].copy_from_slice(signed.as_slice());
-    Ok(vertices.len())
+    let signed = signed_list(alloc, certificate.vertices.as_slice())?;
+    Ok(copy_all(signed.as_slice(), list))
 }
 
 /// An answer of no kind to the certificate: its block, its instance, and the weight of all its validators.
@@ -187,18 +184,18 @@ fn judged_of(
     }
 }
 
-/// The verdicts of these numbers: 0 no, 1 yes. None where there is another number.
-fn verdicts_of(alloc: Global, numbers: &[u32]) -> Result<Option<Vec<bool>>, OutOfMemory>
-    ensures { IfOk result (λ verdicts. AreVerdicts numbers.now verdicts) }
+/// Whether each of the numbers is a verdict: 0 no, or 1 yes.
+fn are_verdicts(numbers: &[u32]) -> bool
+    ensures { result ≡ list_all (λ n. nat_le n 1) numbers.now }
 {
-    let mut verdicts = Vec::with_capacity(alloc, numbers.len())?;
-    'numbers: for number in numbers {
-        if *number > 1 {
-            return Ok(None);
-        }
-        verdicts.push_reserved(*number == 1);
-    }
-    Ok(Some(verdicts))
+    numbers.iter().all(|number| *number <= 1)
+}
+
+/// The verdicts of these numbers.
+fn verdicts_of(alloc: Global, numbers: &[u32]) -> Result<Vec<bool>, OutOfMemory>
+    ensures { IfOk result (λ verdicts. verdicts.items ≡ verdicts_of numbers.now) }
+{
+    Ok(numbers.iter().map(|number| *number == 1).collect(alloc)?)
 }
 
 /// The answer to the certificate that the bytes spell, with these verdicts on the signatures of its vertices: 0 no, 1
@@ -208,12 +205,10 @@ pub fn judgement(alloc: Global, bytes: &[u8], numbers: &[u32]) -> Result<WithByt
     ensures { IsJudged bytes.now numbers.now result }
 {
     let certificate = decode_certificate(alloc, bytes)?;
-    let Some(verdicts) = verdicts_of(alloc, numbers)? else {
-        return Err(Fault::OutOfRange);
-    };
-    if verdicts.len() != certificate.vertices.len() {
+    if numbers.len() != certificate.vertices.len() || !are_verdicts(numbers) {
         return Err(Fault::OutOfRange);
     }
+    let verdicts = verdicts_of(alloc, numbers)?;
     let checked = check(alloc, &certificate, verdicts.as_slice())?;
     Ok(judged_of(alloc, &certificate, &checked)?)
 }
