@@ -20,6 +20,9 @@
 extern "C" {
 #endif
 
+/* The version of this header: of 1.2.3 the number 0x010203. hw_version() says that of the library. */
+#define HW_VERSION 0x000200
+
 /* A place for a node: null while there is none. */
 typedef struct { void *at; } hw_core;
 
@@ -93,20 +96,55 @@ typedef struct { uint32_t kind; uint64_t length; uint8_t digest[32]; } hw_planne
 typedef struct { uint32_t kind; uint64_t length, height, culprits, weight; uint8_t left[32], right[32]; } hw_audited;
 
 /* 0 yes; no, since 1 the configuration breaks a limit, 2 the vertex of this number is refused, 3 the faulty weigh so
- * much, 4 the block doesn't stand. The status is that of 1 and 2. */
-typedef struct { uint32_t kind, status, number; uint64_t weight; uint8_t block[32], instance[32]; } hw_judged;
+ * much, 4 the block doesn't stand. The status is that of 1 and 2. After a yes the block has this height and a value of
+ * length bytes. Instance and total (the weight of all validators; 0 with 1) are the certificate's own. */
+typedef struct {
+  uint32_t kind, status, number;
+  uint64_t weight, height, length, total;
+  uint8_t block[32], instance[32];
+} hw_judged;
 
+/* What a unit says: its creator, its number, when it was made and when its round begins, in milliseconds, and who leads
+ * that round. It is a block where is_block is 1, with a value of length bytes. Its list names endorsed units. The place
+ * says what became of it: 0 the node wasn't asked, 1 settled, 2 parked, 3 dropped. A settled unit has a vote: itself
+ * where it is a block. A settled block has a height, and a parent unless it is at the root. */
+typedef struct {
+  uint32_t creator, exponent, leader, place, is_block, has_parent, has_vote, endorsed;
+  uint64_t seq, time, round, height, length;
+  uint8_t digest[32], parent[32], vote[32];
+} hw_unit_facts;
+
+/* The version that the library was built with: HW_VERSION of its own header. */
+uint32_t hw_version(void);
+
+/* The SHA-256 digest of the bytes. */
+uint32_t hw_sha256(const uint8_t *bytes, size_t bytes_len, uint8_t digest[32]);
+
+/* ---- configurations and nodes */
+
+/* Spells a configuration as bytes. Validator v has weights[v]. Where settings->is_drawn is 0 the table says who leads
+ * which round. HW_BAD_CONFIG where it breaks a limit, HW_TOO_LONG with more than 1,024 weights or 4,096 entries. */
 uint32_t hw_config(const hw_settings *settings, const uint64_t *weights, size_t validators, const uint32_t *table,
                    size_t entries, uint8_t *buf, size_t room, size_t *len, hw_answer *answer);
+
+/* Fills an empty handle with a node that has received nothing. HW_BAD_BYTES where the bytes spell no configuration,
+ * HW_BAD_CONFIG where it breaks a limit, HW_FULL where the handle holds a node already. */
 uint32_t hw_core_new(const uint8_t *config, size_t config_len, hw_answer *answer, hw_core *core);
+
+/* Frees the node. The handle is empty then, so a second call is answered HW_EMPTY. */
 uint32_t hw_core_free(hw_core *core);
+
+/* ---- deliveries */
+
+/* Who signed the vertex, and which units: the host judges these signatures, and delivers the vertex with its verdict.
+ * HW_BAD_BYTES where the bytes spell no vertex. */
 uint32_t hw_signed(const uint8_t *vertex, size_t vertex_len, hw_signatures *signatures, hw_answer *answer);
 
 /* Delivers the vertices in order, and answers each in delivered; what lies between them doesn't count. Those that are
  * units are hashed four side by side, so several in one call cost less than each in one of its own. A vertex that is
  * refused changes nothing, and those behind it are delivered; one that lies outside the bytes, or whose verdict is
- * neither 0 nor 1, is answered HW_OUT_OF_RANGE. The call itself is answered HW_OUT_OF_RANGE, and nothing is delivered,
- * where answers isn't count. */
+ * neither 0 nor 1, is answered HW_OUT_OF_RANGE. The call itself is answered HW_OUT_OF_RANGE, and nothing is
+ * delivered, where answers isn't count. */
 uint32_t hw_deliver(hw_core *core, const uint8_t *bytes, size_t bytes_len, const hw_sent *vertices, size_t count,
                     hw_delivered *delivered, size_t answers);
 
@@ -121,23 +159,88 @@ static inline uint32_t hw_deliver_one(hw_core *core, const uint8_t *vertex, size
   return delivered.status;
 }
 
+/* ---- what a node has */
+
+/* The journal's entry of that place, counted from 0, as the bytes of its vertex: the accepted vertices in their
+ * order. HW_NONE where the journal is shorter. */
 uint32_t hw_journal(hw_core *core, uint64_t place, uint8_t *buf, size_t room, size_t *len);
+
+/* Counts of the node, the weight of its faulty validators, and its fork choice. Where exceeded is 1 the faulty weigh
+ * more than the threshold, and final blocks promise nothing. */
 uint32_t hw_summary(hw_core *core, hw_summary_of *summary);
+
+/* What the node observes of the validator. HW_OUT_OF_RANGE where there is no such validator. */
 uint32_t hw_observation(hw_core *core, uint32_t validator, hw_observed *observed);
+
+/* The faulty validators in rising order, as many as there is room for; count says how many there are. Evidence
+ * against one of them is had by hw_for_need with a need of kind 1, as soon as it is in this list. */
+uint32_t hw_faulty(hw_core *core, uint32_t *list, size_t room, size_t *count);
+
+/* What became of the unit of this digest. */
 uint32_t hw_place(hw_core *core, const uint8_t unit[32], hw_placed *placed);
+
+/* What the journal's unit of this digest is, whatever became of it. Its value goes into buf, and what it observes of
+ * each validator into list, as far as there are places. HW_NONE where the journal has no such unit. */
+uint32_t hw_unit(hw_core *core, const uint8_t unit[32], hw_unit_facts *facts, hw_observed *list, size_t places,
+                 uint8_t *buf, size_t room);
+
+/* What the unit of this vertex says, whether or not the node has it: no place, parent, vote or height. HW_NONE where
+ * the vertex is no unit, HW_BAD_BYTES where the bytes spell no vertex. */
+uint32_t hw_spelled_unit(hw_core *core, const uint8_t *vertex, size_t vertex_len, hw_unit_facts *facts,
+                         hw_observed *list, size_t places, uint8_t *buf, size_t room);
+
+/* The final block of that place, counted from 0: blocks become final in the order of their heights. Its value is had
+ * by hw_unit. HW_NONE where fewer blocks are final. */
 uint32_t hw_decision(hw_core *core, uint64_t index, hw_decided *decided);
+
+/* ---- what peers are asked for, and what they are given */
+
+/* The first needs that parked units miss, as many as there is room for; count says how many these are. 64 are enough
+ * at a time. */
 uint32_t hw_unmet(hw_core *core, hw_need *list, size_t room, size_t *count);
+
+/* The vertex of that place, counted from 0, among those that the node has for the need: the unit, evidence against
+ * the validator, or the endorsements of the unit. HW_NONE where it has fewer, HW_OUT_OF_RANGE where the kind is none. */
 uint32_t hw_for_need(hw_core *core, const hw_need *need, size_t place, uint8_t *buf, size_t room, size_t *len);
+
+/* ---- a validator's own units and endorsements */
+
+/* The unit that the validator may make at this moment, in milliseconds, as bytes without a signature, with this value
+ * where it is a proposal. HW_NONE where there is none, HW_OUT_OF_RANGE where there is no such validator, the moment
+ * is 2^63 or later, or the value has more than 4,096 bytes. The node stays as it is. */
 uint32_t hw_next_unit(hw_core *core, uint32_t validator, uint64_t now, const uint8_t *value, size_t value_len,
                       hw_planned *planned, uint8_t *buf, size_t room);
+
+/* The vertex of a unit with its creator's signature. HW_BAD_BYTES where the bytes spell no unit. */
 uint32_t hw_with_signature(const uint8_t *unit, size_t unit_len, const uint8_t signature[32], uint8_t *buf,
                            size_t room, size_t *len, hw_answer *answer);
+
+/* The vertex of the validator's endorsement of the unit of this digest. The validator signs the digest, by a scheme
+ * that tells an endorsement from a unit. */
+uint32_t hw_endorsement(uint32_t endorser, const uint8_t unit[32], const uint8_t signature[32], uint8_t *buf,
+                        size_t room, size_t *len);
+
+/* ---- two nodes, and certificates */
+
+/* What the journals of two nodes say of each other, and that as the text that the program prints. The handles are
+ * two. HW_OTHER_INSTANCE where the configurations differ. */
 uint32_t hw_audit(hw_core *left, hw_core *right, hw_audited *audited, uint8_t *buf, size_t room);
+
+/* The certificate of the final block of that place. HW_OUT_OF_RANGE where fewer blocks are final, HW_NONE where the
+ * block doesn't stand now, HW_TOO_LONG where it would have more vertices than a journal may have. */
 uint32_t hw_certificate(hw_core *core, uint64_t index, uint8_t *buf, size_t room, size_t *len);
-uint32_t hw_certified(const uint8_t *certificate, size_t certificate_len, size_t place, hw_signatures *signatures,
-                      hw_answer *answer);
-uint32_t hw_check(const uint8_t *certificate, size_t certificate_len, const bool *verdicts, size_t count,
-                  hw_judged *judged, hw_answer *answer);
+
+/* Who signed each vertex of the certificate, and which units, as many as there is room for; count says how many
+ * vertices it has. HW_BAD_CERTIFICATE, HW_BAD_CERTIFIED_CONFIG or HW_BAD_CERTIFIED_VERTEX where the bytes are none. */
+uint32_t hw_certified(const uint8_t *certificate, size_t certificate_len, hw_signatures *list, size_t room,
+                      size_t *count, hw_answer *answer);
+
+/* What the certificate shows with these verdicts on its vertices, 0 no and 1 yes, one for each. After a yes the
+ * block's value goes into buf. Whoever knows which network he means compares the instance with that network's:
+ * anybody can make a certificate of a configuration of his own. HW_OUT_OF_RANGE where there are more or less verdicts
+ * than vertices, or one is another number. */
+uint32_t hw_check(const uint8_t *certificate, size_t certificate_len, const uint32_t *verdicts, size_t count,
+                  hw_judged *judged, uint8_t *buf, size_t room, hw_answer *answer);
 
 #ifdef __cplusplus
 }

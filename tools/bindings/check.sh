@@ -33,6 +33,27 @@ archive() {
     esac
 }
 rust() { (cd bindings/rust && cargo --offline test --quiet); }
+# The packaged crate of Ed25519. Where it is CI it is installed, else its steps are left out.
+packaged() {
+    compgen -G "/usr/share/cargo/registry/ring-*" >/dev/null && return 0
+    if [ -n "${CI:-}" ] && command -v apt-get >/dev/null; then
+        echo "bindings: installs librust-ring-dev"
+        { apt-get update -qq && apt-get install -y -qq librust-ring-dev; } >/dev/null 2>&1
+        compgen -G "/usr/share/cargo/registry/ring-*" >/dev/null && return 0
+    fi
+    echo "bindings: skipped, since there is no librust-ring-dev here: Ed25519"
+    return 1
+}
+# A light client with public keys alone, and then the lens, on what it wrote.
+ed25519() {
+    local room said
+    room="$(mktemp -d)"
+    (cd bindings/ed25519 && cargo --offline test --quiet && cargo --offline run --quiet --example light -- "$room") &&
+        said=$(python3 -B tools/lens.py verify "$room/network.hwlg" "$room/public.keys" --signatures "$room/network.hwsg")
+    local status=$?
+    rm -rf "$room"
+    [ $status -eq 0 ] && echo "$said" && [[ $said == *" 0 without"* ]]
+}
 # Each checks what it shows; the two logs of the second are in conflict.
 examples() {
     local said
@@ -46,8 +67,13 @@ memory="$(dirname "$(rt doc 2>/dev/null)")/c"
 program="$(mktemp -d)"
 trap 'rm -rf "$program"' EXIT
 build() {
-    cc -O2 -Wall -Wextra -Werror -I bindings/c bindings/c/replay.c crates/hw_c/out/libhw_c.a "$memory/liblibc_c.a" \
-        -o "$program/replay"
+    for name in replay validator; do
+        cc -std=c99 -O2 -Wall -Wextra -Werror -I bindings/c "bindings/c/$name.c" crates/hw_c/out/libhw_c.a \
+            "$memory/liblibc_c.a" -o "$program/$name" || return
+    done
+}
+installed() {
+    tools/bindings/install.sh "$program/installed" && "$program/validator"
 }
 # The log has four entries.
 million() {
@@ -67,9 +93,11 @@ if [ -n "$built" ]; then
     if has cargo "the crate for Rust"; then
         step "the tests of the crate" rust
         step "its examples" in_a_shell examples
+        packaged && has python3 "Ed25519" && step "Ed25519 beside the vertices" ed25519
     fi
     if has cc "the program in C"; then
-        step "the program in C" build
+        step "the programs in C" build
+        [ -x "$program/validator" ] && step "a validator in C, and the installation" installed
         [ -x "$program/replay" ] && step "a million deliveries" million
         [ -x "$program/replay" ] && has valgrind "no leak, no bad access" && step "no leak, no bad access" clean
     fi

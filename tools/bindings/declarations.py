@@ -30,6 +30,7 @@ STRUCTS = {
     "hw_signatures": "Signed",
     "hw_signer": "Signer",
     "hw_summary_of": "Summary",
+    "hw_unit_facts": "UnitFacts",
 }
 TYPES = {"uint8_t": "u8", "uint32_t": "u32", "uint64_t": "u64", "size_t": "usize", "bool": "bool", **STRUCTS}
 
@@ -37,7 +38,7 @@ TYPES = {"uint8_t": "u8", "uint32_t": "u32", "uint64_t": "u64", "size_t": "usize
 def numbers_of(text):
     """The constants of a text in Rattle or in Rust, by name."""
     rows = re.findall(r"^pub(?:\(crate\))? const ([A-Z_]+): u32 = (\w+);", text, re.M)
-    return {name: int(number, 0) for name, number in rows}
+    return {name: int(number, 0) for name, number in rows if name != "VERSION"}
 
 
 def numbers_of_header(text):
@@ -132,7 +133,7 @@ def of_c(parameter):
 
 def calls_of_header(text):
     rows = re.findall(r"^uint32_t (hw_\w+)\((.*?)\);", without_comments(text), re.S | re.M)
-    return {name: [of_c(it) for it in split(body)] for name, body in rows}
+    return {name: [of_c(it) for it in split(body) if it != "void"] for name, body in rows}
 
 
 def differences(what, crate, other, where):
@@ -155,6 +156,25 @@ def compared(crate, rules, header, wrapper, wrapper_rules):
     return found, {what: len(it) for what, it in counts.items()}
 
 
+def version_faults(top=TOP):
+    """Where a text has another version than the file VERSION, as lines."""
+    version = (top / "VERSION").read_text().strip()
+    number = "0x" + "".join(f"{int(part):02x}" for part in version.split("."))
+    places = {
+        "crates/hw_c/src/lib.rt": rf"^pub const VERSION: u32 = {number};",
+        "bindings/c/highway.h": rf"^#define HW_VERSION {number}$",
+        "bindings/c/highway.pc.in": rf"^Version: {re.escape(version)}$",
+        "bindings/rust/Cargo.toml": rf'^version = "{re.escape(version)}"$',
+        "bindings/ed25519/Cargo.toml": rf'^version = "{re.escape(version)}"$',
+        "CHANGELOG.md": rf"^## {re.escape(version)}$",
+    }
+    return [
+        f"{place} hasn't the version {version}"
+        for place, form in places.items()
+        if not re.search(form, (top / place).read_text(), re.M)
+    ]
+
+
 def texts(top=TOP):
     """The texts that are compared: the crate, the numbers of rules, the header, and the wrapper's declarations and rules."""
     folder, wrapper = top / "crates/hw_c/src", top / "bindings/rust/src"
@@ -168,6 +188,7 @@ def texts(top=TOP):
 def main():
     found, counts = compared(*texts())
     found += [f"no {what} were found" for what, count in counts.items() if not count]
+    found += version_faults()
     for row in found:
         print(f"bindings: not the same in all texts: {row}")
     if not found:

@@ -64,10 +64,22 @@ class Part:
 
 PARTS = (
     Part("The protocol: graph, rules, answers, choice, summits, decisions"),
-    Part("Bytes: units, configurations and logs", ("hw_types.Spelling", "hw_types.Limits", "hw_types.Real", "hw_codec.", "hw_log.")),
+    Part(
+        "Bytes: units, configurations and logs",
+        ("hw_types.Spelling", "hw_types.Limits", "hw_types.Real", "hw_codec.", "hw_log."),
+    ),
     Part(
         "Logs, and what is printed of them",
-        ("hw_text.", "hw_explain.", "hw_audit.", "hw_commands.", "hw_replay.", "hw_theorem.Counts", "hw_theorem.Logs", "hw_theorem.Reports"),
+        (
+            "hw_text.",
+            "hw_explain.",
+            "hw_audit.",
+            "hw_commands.",
+            "hw_replay.",
+            "hw_theorem.Counts",
+            "hw_theorem.Logs",
+            "hw_theorem.Reports",
+        ),
     ),
 )
 
@@ -303,7 +315,12 @@ def in_parts(found, ordered):
     """For each part its definitions by file, and what they take from parts below."""
     parts = [[full for full in ordered if part_of(found.by_name[full].module) == at] for at in range(len(PARTS))]
     for at, names in enumerate(parts):
-        later = {below for full in names for below in believed_below(found, full) if part_of(found.by_name[below].module) > at}
+        later = {
+            below
+            for full in names
+            for below in believed_below(found, full)
+            if part_of(found.by_name[below].module) > at
+        }
         yield PARTS[at], by_files(found, names), sorted(later)
 
 
@@ -350,7 +367,9 @@ def page_of(found):
 def rows_of_file(found, names):
     """The definitions of one file, as a table under its name."""
     path = found.by_name[names[0]].path
-    rows = [f"\n### [{path.removeprefix('crates/')}](../{path})\n\n| Line | Definition | In plain words |\n|---|---|---|\n"]
+    rows = [
+        f"\n### [{path.removeprefix('crates/')}](../{path})\n\n| Line | Definition | In plain words |\n|---|---|---|\n"
+    ]
     for full in names:
         it = found.by_name[full]
         rows.append(f"| {it.line} | `{it.name}` | {in_plain_words(full, it)} |\n")
@@ -376,7 +395,9 @@ def main(words=None):
         print(f"{PAGE} isn't what the definitions say: run tools/gate/headline.py")
         return 1
     if count > MOST_DEFINITIONS or lines > MOST_LINES or protocol > MOST_OF_PROTOCOL:
-        print(f"headline: more than {MOST_DEFINITIONS} definitions, {MOST_LINES} lines or {MOST_OF_PROTOCOL} of the protocol")
+        print(
+            f"headline: more than {MOST_DEFINITIONS} definitions, {MOST_LINES} lines or {MOST_OF_PROTOCOL} of the protocol"
+        )
         return 1
     return 0
 

@@ -39,6 +39,7 @@ class Theorem:
 THEOREMS = (
     Theorem(("hw_page.Page.PageSafety", "hw_page.Page.PageOneChain")),
     Theorem(("hw_theorem.Logs.AreConflictingLogs",), ("hw_theorem.",)),
+    Theorem(("hw_agreement.Lives.NoInnocentIsNamed", "hw_agreement.Lives.HostsAgree"), ("hw_agreement.",)),
 )
 
 

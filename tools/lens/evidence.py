@@ -1,5 +1,5 @@
 """`lens.py evidence LOG`: for each faulty validator the pair that shows it. Who is faulty is the program's word."""
-from lens.log import read_keys
+from lens.detached import read_scheme
 from lens.program import ProgramError
 from lens.show import Look, unit_lines
 
@@ -36,7 +36,7 @@ def run(arguments):
     """Shows the pairs, and answers 0."""
     look = Look(arguments.log, arguments)
     look.refuse_fault()
-    keys = read_keys(arguments.keys, len(look.log.config.weights)) if arguments.keys else None
+    keys = read_scheme(arguments, len(look.log.config.weights)) if arguments.keys else None
     report = look.program().replay(look.file_before_limit())
     if not report.faulty:
         print(f"{look.path}: nobody is faulty")

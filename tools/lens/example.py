@@ -6,6 +6,7 @@ from lens.log import (
     Endorsement,
     Evidence,
     SignedUnit,
+    StandIn,
     Unit,
     digest_of,
     endorsement_signature,
@@ -40,7 +41,7 @@ def make_config(weights, threshold, **others):
 
 def sample_keys(count):
     """Keys of a test network for so many validators."""
-    return [digest_of(b"key %d" % who) for who in range(count)]
+    return StandIn(digest_of(b"key %d" % who) for who in range(count))
 
 
 def clauses(words):

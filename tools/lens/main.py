@@ -56,6 +56,11 @@ def command(commands, name, what):
     return parser
 
 
+def signatures_option(parser):
+    what = "the file of Ed25519 signatures beside the log; KEYS are public keys then, 64 digits a line"
+    parser.add_argument("--signatures", metavar="FILE", help=what)
+
+
 def add_questions(commands):
     parser = command(commands, "entries", "each entry of a log, and what became of it")
     parser.add_argument("log", metavar="LOG")
@@ -66,9 +71,11 @@ def add_questions(commands):
     parser = command(commands, "evidence", "for each faulty validator the pair of units that shows it")
     parser.add_argument("log", metavar="LOG")
     parser.add_argument("--keys", metavar="KEYS", help="the validators' keys, with which each signature is checked")
+    signatures_option(parser)
     parser = command(commands, "verify", "checks each signature; status 1 where a verdict byte isn't what the keys say")
     parser.add_argument("log", metavar="LOG")
     parser.add_argument("keys", metavar="KEYS")
+    signatures_option(parser)
     parser = command(commands, "why", "the conflict of two logs as a story")
     parser.add_argument("left", metavar="LEFT")
     parser.add_argument("right", metavar="RIGHT")

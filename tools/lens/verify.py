@@ -1,15 +1,6 @@
-"""`lens.py verify LOG KEYS`: checks each signature, and lists the entries whose verdict isn't what the keys say."""
-from lens.log import (
-    Endorsement,
-    Evidence,
-    LogReader,
-    each_entry,
-    is_signed,
-    is_signed_unit,
-    read_head,
-    read_keys,
-    short,
-)
+"""`lens.py verify LOG KEYS [--signatures FILE]`: checks each signature, and lists the entries whose verdict isn't what the keys say."""
+from lens.detached import read_scheme
+from lens.log import Endorsement, Evidence, LogReader, each_entry, is_signed, is_signed_unit, read_head, short
 from lens.show import Progress, counted, named
 
 KINDS = ("unit", "evidence", "endorsement")
@@ -44,7 +35,7 @@ def summary(reader, counts, good, wrong):
 
 def run(arguments):
     """Lists the entries whose verdict is wrong, then the counts; 1 where there is such an entry."""
-    keys = read_keys(arguments.keys, len(read_head(arguments.log).weights))
+    keys = read_scheme(arguments, len(read_head(arguments.log).weights))
     reader, progress = LogReader(arguments.log), Progress(arguments, "checked bytes")
     counts, good, wrong = dict.fromkeys(KINDS, 0), 0, 0
     for entry in each_entry(arguments.log, reader, progress):

@@ -1,6 +1,6 @@
 //! A node.
 
-use crate::{Certificate, Digest, Error, Need, Plan, Rule, Verdict, sys};
+use crate::{Certificate, Digest, Error, Need, Plan, Rule, Unit, Verdict, sys};
 use std::fmt;
 use std::iter::FusedIterator;
 use std::ops::Range;
@@ -324,6 +324,16 @@ impl Iterator for Decisions<'_> {
 
 impl FusedIterator for Decisions<'_> {}
 
+impl Observation {
+    pub(crate) fn of_sys(observed: &sys::Observed) -> Observation {
+        match observed.kind {
+            0 => Observation::Absent,
+            1 => Observation::Correct(Digest(observed.unit)),
+            _ => Observation::Faulty,
+        }
+    }
+}
+
 fn receipt_of(answer: &sys::Answer) -> Receipt {
     match answer.kind {
         0 => Receipt::Admitted { settled: answer.count },
@@ -530,12 +540,88 @@ impl Core {
     /// # Ok::<(), Error>(())
     /// ```
     pub fn observation(&self, validator: u32) -> Result<Observation, Error> {
-        let observed = self.handle.observation(validator)?;
-        Ok(match observed.kind {
-            0 => Observation::Absent,
-            1 => Observation::Correct(Digest(observed.unit)),
-            _ => Observation::Faulty,
-        })
+        Ok(Observation::of_sys(&self.handle.observation(validator)?))
+    }
+
+    /// The faulty validators in rising order: against whom there is evidence, or two settled units of one number. A
+    /// host that compares this with what it had before sees who became faulty; it asks for the proof by
+    /// [`Core::for_need`] with [`Need::Evidence`], and passes that on.
+    ///
+    /// # Errors
+    ///
+    /// As [`Core::summary`].
+    ///
+    /// ```
+    /// # use highway::{Core, Error, Leaders, Need, Settings};
+    /// # let leaders = Leaders::Table(vec![0]);
+    /// # let settings = Settings { leaders, min_exponent: 2, ..Settings::of_weights(vec![1]) };
+    /// # let mut core = Core::new(&settings.to_bytes()?)?;
+    /// let one = core.next_unit(0, 0, b"a block")?.expect("validator 0 leads").signed(&[7; 32])?;
+    /// let two = core.next_unit(0, 0, b"another")?.expect("validator 0 leads").signed(&[7; 32])?;
+    /// core.deliver(&one, true)?;
+    /// assert!(core.faulty()?.is_empty());
+    /// core.deliver(&two, true)?;
+    /// assert_eq!(core.faulty()?, [0]);
+    /// assert_eq!(core.for_need(Need::Evidence(0))?.len(), 1);
+    /// # Ok::<(), Error>(())
+    /// ```
+    pub fn faulty(&self) -> Result<Vec<u32>, Error> {
+        self.handle.faulty()
+    }
+
+    /// What the journal's unit of this digest is, where the journal has it: settled, parked or dropped.
+    ///
+    /// # Errors
+    ///
+    /// [`Error::OutOfMemory`] alone.
+    ///
+    /// ```
+    /// # use highway::{Core, Digest, Error, Leaders, Settings};
+    /// # let leaders = Leaders::Table(vec![0]);
+    /// # let settings = Settings { leaders, min_exponent: 2, ..Settings::of_weights(vec![1]) };
+    /// # let mut core = Core::new(&settings.to_bytes()?)?;
+    /// # for now in 0..32 {
+    /// #     let Some(plan) = core.next_unit(0, now, b"a block")? else { continue };
+    /// #     core.deliver(&plan.signed(&[0; 32])?, true)?;
+    /// # }
+    /// let decision = core.decision(0).expect("a final block");
+    /// let block = core.unit(decision.block)?.expect("it is settled");
+    /// assert_eq!(block.value, Some(b"a block".to_vec()));
+    /// assert_eq!(core.unit(Digest([0; 32]))?, None);
+    /// # Ok::<(), Error>(())
+    /// ```
+    pub fn unit(&self, unit: Digest) -> Result<Option<Unit>, Error> {
+        match self.handle.unit(&unit.0) {
+            Ok(said) => Ok(Some(Unit::of_sys(said))),
+            Err(Error::Nothing) => Ok(None),
+            Err(error) => Err(error),
+        }
+    }
+
+    /// What the unit of the vertex that the bytes spell says, whether or not the node has it: None where the vertex is
+    /// an evidence or an endorsement. Its round and leader are those in this node's configuration.
+    ///
+    /// # Errors
+    ///
+    /// [`Error::Bytes`] where they spell no vertex.
+    ///
+    /// ```
+    /// # use highway::{Core, Error, Leaders, Settings};
+    /// # let leaders = Leaders::Table(vec![0]);
+    /// # let settings = Settings { leaders, min_exponent: 2, ..Settings::of_weights(vec![1]) };
+    /// # let core = Core::new(&settings.to_bytes()?)?;
+    /// let vertex = core.next_unit(0, 0, b"a block")?.expect("validator 0 leads").signed(&[7; 32])?;
+    /// let unit = core.read_unit(&vertex)?.expect("a unit");
+    /// assert_eq!(unit.value.as_deref(), Some(b"a block".as_slice()));
+    /// assert!(core.read_unit(b"junk").is_err());
+    /// # Ok::<(), Error>(())
+    /// ```
+    pub fn read_unit(&self, vertex: &[u8]) -> Result<Option<Unit>, Error> {
+        match self.handle.spelled_unit(vertex) {
+            Ok(said) => Ok(Some(Unit::of_sys(said))),
+            Err(Error::Nothing) => Ok(None),
+            Err(error) => Err(error),
+        }
     }
 
     /// What became of the unit of this digest.
@@ -612,7 +698,7 @@ impl Core {
     }
 
     /// The first needs that parked units miss, at most so many: what to ask peers for. A need stays until it is met, so
-    /// also while the unit that it names waits itself; ask for as many as may wait.
+    /// also while the unit that it names waits itself. Ask for 64: more costs more, and what is met makes room for others.
     ///
     /// # Errors
     ///

@@ -28,6 +28,7 @@
 
 mod config;
 mod core;
+mod detached;
 mod error;
 mod light;
 mod need;
@@ -37,17 +38,33 @@ mod status;
 mod step;
 #[allow(unsafe_code)]
 mod sys;
+mod unit;
 
 pub use config::{Leaders, Settings};
 pub use core::{Core, Decision, Decisions, Journal, Observation, Place, Receipt, Refusal, Sent, Summary};
+pub use detached::{Detached, DetachedError, Verify, message};
 pub use error::{BytesFault, CertificateFault, Error, Limit, PairFault};
 pub use light::{Certificate, Judgement, Verdict};
 pub use need::Need;
 pub use rule::Rule;
 pub use signatures::{Signature, Signatures};
 pub use step::{Plan, PlanKind};
+pub use unit::{Unit, UnitState, endorsement};
 
 use std::fmt;
+
+/// The version of this crate and of the library that it was linked with, as `0.2.0`. They are the same where both come
+/// from one checkout.
+///
+/// ```
+/// let (here, library) = highway::versions();
+/// assert_eq!(here, library);
+/// ```
+pub fn versions() -> (String, String) {
+    let number = sys::version();
+    let library = format!("{}.{}.{}", number >> 16, number >> 8 & 255, number & 255);
+    (env!("CARGO_PKG_VERSION").to_owned(), library)
+}
 
 /// The name of a unit, or of an instance: its SHA-256 digest. It is printed as 64 hexadecimal digits.
 ///

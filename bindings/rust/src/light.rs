@@ -57,7 +57,8 @@ impl Verdict {
     }
 }
 
-/// A light certificate: a block, and the few vertices that make it stand, as bytes.
+/// A certificate: a block, and vertices that make it stand, as bytes. It has all units below those of the block's
+/// committee, so it is as long as the journal up to there.
 ///
 /// ```
 /// # use highway::{Certificate, Core, Error, Judgement, Leaders, Settings};
@@ -70,7 +71,7 @@ impl Verdict {
 /// # }
 /// let made = core.certificate(0)?.expect("the block stands");
 /// let read = Certificate::from_bytes(made.as_bytes().to_vec());
-/// let verdicts: Vec<bool> = read.signatures().map(|signed| signed.is_ok()).collect();
+/// let verdicts: Vec<bool> = read.signatures()?.iter().map(|one| one.all(|_, one| one.signature == [0; 32])).collect();
 /// assert!(matches!(read.check(&verdicts)?, Judgement::Yes { .. }));
 /// # Ok::<(), Error>(())
 /// ```
@@ -91,22 +92,28 @@ pub struct Certificate {
 /// #     core.deliver(&plan.signed(&[0; 32])?, true)?;
 /// # }
 /// let certificate = core.certificate(0)?.expect("the block stands");
-/// let count = certificate.signatures().count();
+/// let count = certificate.signatures()?.len();
 /// match certificate.check(&vec![true; count])? {
-///     Judgement::Yes { block, instance } => println!("{block} stands in the instance {instance}"),
+///     Judgement::Yes { block, instance, height, .. } => println!("{block} of height {height} stands in {instance}"),
 ///     other => panic!("{other:?}"),
 /// }
 /// # Ok::<(), Error>(())
 /// ```
-#[derive(Clone, Copy, Debug, PartialEq, Eq)]
+#[derive(Clone, Debug, PartialEq, Eq)]
 pub enum Judgement {
     /// The block stands: another node of this instance that decided another block at its height is in a conflict with
     /// it whose culprits weigh more than the fault tolerance. The caller compares the instance with the one it knows.
     Yes {
         /// The block.
         block: Digest,
-        /// The digest of the configuration.
+        /// The digest of the certificate's own configuration.
         instance: Digest,
+        /// The weight of all validators in that configuration.
+        total: u64,
+        /// How many blocks are below it on its chain.
+        height: u64,
+        /// Its value.
+        value: Vec<u8>,
     },
     /// The configuration breaks a limit. Which validator has no weight isn't told: the number in the error is 0.
     Config(Error),
@@ -142,7 +149,11 @@ impl Certificate {
         &self.bytes
     }
 
-    /// Who signed what, vertex by vertex, up to the first error, which is the last that is told.
+    /// Who signed what, vertex by vertex.
+    ///
+    /// # Errors
+    ///
+    /// [`Error::Certificate`] where the bytes are none.
     ///
     /// ```
     /// # use highway::{Certificate, Core, Error, Leaders, Settings};
@@ -154,28 +165,14 @@ impl Certificate {
     /// #     core.deliver(&plan.signed(&[0; 32])?, true)?;
     /// # }
     /// let certificate = core.certificate(0)?.expect("the block stands");
-    /// for signed in certificate.signatures() {
-    ///     assert!(signed?.all(|_is_endorsement, one| one.validator == 0 && one.signature == [0; 32]));
+    /// for signed in certificate.signatures()? {
+    ///     assert!(signed.all(|_is_endorsement, one| one.validator == 0 && one.signature == [0; 32]));
     /// }
-    /// let none = Certificate::from_bytes(b"from a peer".to_vec());
-    /// assert_eq!(none.signatures().count(), 1);
+    /// assert!(Certificate::from_bytes(b"from a peer".to_vec()).signatures().is_err());
     /// # Ok::<(), Error>(())
     /// ```
-    pub fn signatures(&self) -> impl Iterator<Item = Result<Signatures, Error>> + '_ {
-        let mut has_failed = false;
-        (0..).map_while(move |place| {
-            if has_failed {
-                return None;
-            }
-            match sys::certified(&self.bytes, place) {
-                Ok(signed) => Some(Ok(Signatures::of_sys(&signed))),
-                Err(Error::Nothing) => None,
-                Err(error) => {
-                    has_failed = true;
-                    Some(Err(error))
-                }
-            }
-        })
+    pub fn signatures(&self) -> Result<Vec<Signatures>, Error> {
+        Ok(sys::certified(&self.bytes)?.iter().map(Signatures::of_sys).collect())
     }
 
     /// What it is answered with these verdicts on its vertices, one for each in their order.
@@ -195,7 +192,7 @@ impl Certificate {
     /// #     core.deliver(&plan.signed(&[0; 32])?, true)?;
     /// # }
     /// let certificate = core.certificate(0)?.expect("the block stands");
-    /// let mut verdicts = vec![true; certificate.signatures().count()];
+    /// let mut verdicts = vec![true; certificate.signatures()?.len()];
     /// assert!(matches!(certificate.check(&verdicts)?, Judgement::Yes { .. }));
     /// verdicts[0] = false;
     /// assert_eq!(certificate.check(&verdicts)?, Judgement::Refused(0, Error::BadSignature));
@@ -203,10 +200,16 @@ impl Certificate {
     /// # Ok::<(), Error>(())
     /// ```
     pub fn check(&self, verdicts: &[bool]) -> Result<Judgement, Error> {
-        let judged = sys::check(&self.bytes, verdicts)?;
+        let (judged, value) = sys::check(&self.bytes, verdicts)?;
         let refused = || Error::of(judged.status, &sys::Answer::default());
         Ok(match judged.kind {
-            0 => Judgement::Yes { block: Digest(judged.block), instance: Digest(judged.instance) },
+            0 => Judgement::Yes {
+                block: Digest(judged.block),
+                instance: Digest(judged.instance),
+                total: judged.total,
+                height: judged.height,
+                value,
+            },
             1 => Judgement::Config(refused()),
             2 => Judgement::Refused(judged.number, refused()),
             3 => Judgement::Exceeded(judged.weight),

@@ -42,14 +42,23 @@ record!(Decided { block: [u8; 32], height: u64, quorum: u64, at: u64, level: u32
 record!(Missing { kind: u32, validator: u32, digest: [u8; 32] });
 record!(Planned { kind: u32, length: u64, digest: [u8; 32] });
 record!(Audited { kind: u32, length: u64, height: u64, culprits: u64, weight: u64, left: [u8; 32], right: [u8; 32] });
-record!(Judged { kind: u32, status: u32, number: u32, weight: u64, block: [u8; 32], instance: [u8; 32] });
+record!(Judged {
+    kind: u32, status: u32, number: u32, weight: u64, height: u64, length: u64, total: u64, block: [u8; 32],
+    instance: [u8; 32],
+});
+record!(UnitFacts {
+    creator: u32, exponent: u32, leader: u32, place: u32, is_block: u32, has_parent: u32, has_vote: u32, endorsed: u32,
+    seq: u64, time: u64, round: u64, height: u64, length: u64, digest: [u8; 32], parent: [u8; 32], vote: [u8; 32],
+});
 
 #[allow(clippy::too_many_arguments)]
 mod exports {
     use super::{Answer, Audited, Decided, Delivered, Judged, Missing, Observed, Placed, Planned};
-    use super::{RawHandle, Sent, Settings, Signed, Summary};
+    use super::{RawHandle, Sent, Settings, Signed, Summary, UnitFacts};
 
     unsafe extern "C" {
+        pub fn hw_version() -> u32;
+        pub fn hw_sha256(bytes: *const u8, len: usize, digest: *mut [u8; 32]) -> u32;
         pub fn hw_config(
             settings: *const Settings, weights: *const u64, validators: usize, table: *const u32, entries: usize,
             buf: *mut u8, room: usize, len: *mut usize, answer: *mut Answer,
@@ -65,7 +74,16 @@ mod exports {
         pub fn hw_summary(core: *mut RawHandle, summary: *mut Summary) -> u32;
         pub fn hw_observation(core: *mut RawHandle, validator: u32, observed: *mut Observed) -> u32;
         pub fn hw_place(core: *mut RawHandle, unit: *const [u8; 32], placed: *mut Placed) -> u32;
+        pub fn hw_unit(
+            core: *mut RawHandle, unit: *const [u8; 32], facts: *mut UnitFacts, list: *mut Observed, places: usize,
+            buf: *mut u8, room: usize,
+        ) -> u32;
+        pub fn hw_spelled_unit(
+            core: *mut RawHandle, vertex: *const u8, len: usize, facts: *mut UnitFacts, list: *mut Observed,
+            places: usize, buf: *mut u8, room: usize,
+        ) -> u32;
         pub fn hw_decision(core: *mut RawHandle, index: u64, decided: *mut Decided) -> u32;
+        pub fn hw_faulty(core: *mut RawHandle, list: *mut u32, room: usize, count: *mut usize) -> u32;
         pub fn hw_unmet(core: *mut RawHandle, list: *mut Missing, room: usize, count: *mut usize) -> u32;
         pub fn hw_for_need(
             core: *mut RawHandle, need: *const Missing, place: usize, buf: *mut u8, room: usize, len: *mut usize,
@@ -78,16 +96,20 @@ mod exports {
             unit: *const u8, unit_len: usize, signature: *const [u8; 32], buf: *mut u8, room: usize, len: *mut usize,
             answer: *mut Answer,
         ) -> u32;
+        pub fn hw_endorsement(
+            endorser: u32, unit: *const [u8; 32], signature: *const [u8; 32], buf: *mut u8, room: usize,
+            len: *mut usize,
+        ) -> u32;
         pub fn hw_audit(
             left: *mut RawHandle, right: *mut RawHandle, audited: *mut Audited, buf: *mut u8, room: usize,
         ) -> u32;
         pub fn hw_certificate(core: *mut RawHandle, index: u64, buf: *mut u8, room: usize, len: *mut usize) -> u32;
         pub fn hw_certified(
-            certificate: *const u8, len: usize, place: usize, signed: *mut Signed, answer: *mut Answer,
+            certificate: *const u8, len: usize, list: *mut Signed, room: usize, count: *mut usize, answer: *mut Answer,
         ) -> u32;
         pub fn hw_check(
-            certificate: *const u8, len: usize, verdicts: *const bool, count: usize, judged: *mut Judged,
-            answer: *mut Answer,
+            certificate: *const u8, len: usize, verdicts: *const u32, count: usize, judged: *mut Judged, buf: *mut u8,
+            room: usize, answer: *mut Answer,
         ) -> u32;
     }
 }
@@ -98,14 +120,31 @@ mod exports {
 /// `Sync`, so no two calls of one node overlap; and no call runs code of the caller's.
 pub struct Handle {
     place: UnsafeCell<RawHandle>,
+    /// How many bytes the configuration has.
+    config: usize,
+    /// How many bytes the vertices have that were taken, with the place for a length before each.
+    taken: usize,
 }
 
 // SAFETY: `Send` is proved of the handle's type, in crates/hw_c/proofs/handle/Handle/TheSendSync.
 unsafe impl Send for Handle {}
 
+/// What most calls write.
+const SHORT: usize = 1024;
+
 /// The bytes that a call writes, which says how many there are in all.
-fn bytes_of(mut call: impl FnMut(&mut [u8], &mut usize) -> Result<(), Error>) -> Result<Vec<u8>, Error> {
-    let mut bytes = vec![0; 1024];
+fn bytes_of(call: impl FnMut(&mut [u8], &mut usize) -> Result<(), Error>) -> Result<Vec<u8>, Error> {
+    bytes_within(SHORT, call)
+}
+
+/// The same, where they are at most so many, or the call is made twice: it works them out each time.
+fn bytes_within(
+    most: usize,
+    mut call: impl FnMut(&mut [u8], &mut usize) -> Result<(), Error>,
+) -> Result<Vec<u8>, Error> {
+    let mut bytes = Vec::new();
+    bytes.try_reserve_exact(most).map_err(|_| Error::OutOfMemory)?;
+    bytes.resize(most, 0);
     loop {
         let mut len = 0;
         call(&mut bytes, &mut len)?;
@@ -116,6 +155,16 @@ fn bytes_of(mut call: impl FnMut(&mut [u8], &mut usize) -> Result<(), Error>) ->
         bytes.resize(len, 0);
     }
 }
+
+/// What the library says of a unit, what it observes, and its value.
+pub struct Facts {
+    pub facts: UnitFacts,
+    pub list: Vec<Observed>,
+    pub value: Vec<u8>,
+}
+
+/// A place for an observation that the library left as it was.
+const NO_SLOT: u32 = u32::MAX;
 
 /// What a status says, with nothing behind it.
 fn said(status: u32) -> Result<(), Error> {
@@ -128,7 +177,7 @@ impl Handle {
         // SAFETY: all pointers are of borrows that last for the call.
         let status = unsafe { exports::hw_core_new(config.as_ptr(), config.len(), &mut answer, &mut place) };
         Error::check(status, &answer)?;
-        Ok(Handle { place: UnsafeCell::new(place) })
+        Ok(Handle { place: UnsafeCell::new(place), config: config.len(), taken: 0 })
     }
 
     /// Writes what each of the vertices is answered; the two lists are equally long.
@@ -141,6 +190,8 @@ impl Handle {
             )
         };
         assert_eq!(status, OK, "a core holds a node, and each vertex has its answer");
+        let taken = vertices.iter().zip(delivered).filter(|(_, it)| it.status == OK);
+        self.taken += taken.map(|(vertex, _)| vertex.length as usize + 16).sum::<usize>();
     }
 
     pub fn journal(&self, place: u64) -> Result<Vec<u8>, Error> {
@@ -169,6 +220,51 @@ impl Handle {
         // SAFETY: as in `journal`.
         said(unsafe { exports::hw_place(self.place.get(), unit, &mut placed) })?;
         Ok(placed)
+    }
+
+    pub fn unit(&self, unit: &[u8; 32]) -> Result<Facts, Error> {
+        self.facts(|facts, list, buf| {
+            // SAFETY: as in `journal`.
+            said(unsafe {
+                exports::hw_unit(
+                    self.place.get(), unit, facts, list.as_mut_ptr(), list.len(), buf.as_mut_ptr(), buf.len(),
+                )
+            })
+        })
+    }
+
+    pub fn spelled_unit(&self, vertex: &[u8]) -> Result<Facts, Error> {
+        self.facts(|facts, list, buf| {
+            // SAFETY: as in `journal`.
+            said(unsafe {
+                exports::hw_spelled_unit(
+                    self.place.get(), vertex.as_ptr(), vertex.len(), facts, list.as_mut_ptr(), list.len(),
+                    buf.as_mut_ptr(), buf.len(),
+                )
+            })
+        })
+    }
+
+    /// What a call says of a unit, with its panorama and its value.
+    fn facts(
+        &self,
+        call: impl FnOnce(&mut UnitFacts, &mut [Observed], &mut [u8]) -> Result<(), Error>,
+    ) -> Result<Facts, Error> {
+        // A validator has eight bytes in the configuration, and a value at most 4,096.
+        let (mut facts, mut list, mut value) =
+            (UnitFacts::default(), vec![Observed { kind: NO_SLOT, unit: [0; 32] }; self.config / 8], vec![0; 4096]);
+        call(&mut facts, &mut list, &mut value)?;
+        list.retain(|slot| slot.kind != NO_SLOT);
+        value.truncate(facts.length as usize);
+        Ok(Facts { facts, list, value })
+    }
+
+    pub fn faulty(&self) -> Result<Vec<u32>, Error> {
+        let (mut list, mut count) = (vec![0; self.config / 8], 0);
+        // SAFETY: as in `journal`.
+        said(unsafe { exports::hw_faulty(self.place.get(), list.as_mut_ptr(), list.len(), &mut count) })?;
+        list.truncate(count);
+        Ok(list)
     }
 
     pub fn decision(&self, index: u64) -> Result<Decided, Error> {
@@ -213,7 +309,8 @@ impl Handle {
 
     pub fn audit(&self, other: &Handle) -> Result<(Audited, Vec<u8>), Error> {
         let mut audited = Audited::default();
-        let text = bytes_of(|buf, len| {
+        // A line for each culprit, and a weight in the configuration has eight bytes.
+        let text = bytes_within(SHORT + 20 * self.config, |buf, len| {
             // SAFETY: as in `journal`; the caller has seen to it that the two are two.
             said(unsafe {
                 exports::hw_audit(self.place.get(), other.place.get(), &mut audited, buf.as_mut_ptr(), buf.len())
@@ -225,7 +322,8 @@ impl Handle {
     }
 
     pub fn certificate(&self, index: u64) -> Result<Vec<u8>, Error> {
-        bytes_of(|buf, len| {
+        // The configuration and vertices of the journal, some of them once more in evidence.
+        bytes_within(SHORT + self.config + 2 * self.taken, |buf, len| {
             // SAFETY: as in `journal`.
             said(unsafe { exports::hw_certificate(self.place.get(), index, buf.as_mut_ptr(), buf.len(), len) })
         })
@@ -237,6 +335,20 @@ impl Drop for Handle {
         // SAFETY: the handle isn't used again.
         unsafe { exports::hw_core_free(self.place.get_mut()) };
     }
+}
+
+/// The version that the library was built with.
+pub fn version() -> u32 {
+    // SAFETY: the call takes nothing.
+    unsafe { exports::hw_version() }
+}
+
+pub fn sha256(bytes: &[u8]) -> [u8; 32] {
+    let mut digest = [0; 32];
+    // SAFETY: all pointers are of borrows that last for the call.
+    let status = unsafe { exports::hw_sha256(bytes.as_ptr(), bytes.len(), &mut digest) };
+    assert_eq!(status, OK, "a digest takes no memory");
+    digest
 }
 
 pub fn config(settings: &Settings, weights: &[u64], table: &[u32]) -> Result<Vec<u8>, Error> {
@@ -274,24 +386,39 @@ pub fn with_signature(unit: &[u8], signature: &[u8; 32]) -> Result<Vec<u8>, Erro
     })
 }
 
-pub fn certified(certificate: &[u8], place: usize) -> Result<Signed, Error> {
-    let (mut signed, mut answer) = (Signed::default(), Answer::default());
-    // SAFETY: all pointers are of borrows that last for the call.
-    let status = unsafe {
-        exports::hw_certified(certificate.as_ptr(), certificate.len(), place, &mut signed, &mut answer)
-    };
-    Error::check(status, &answer)?;
-    Ok(signed)
+pub fn endorsement(endorser: u32, unit: &[u8; 32], signature: &[u8; 32]) -> Result<Vec<u8>, Error> {
+    bytes_of(|buf, len| {
+        // SAFETY: all pointers are of borrows that last for the call.
+        said(unsafe { exports::hw_endorsement(endorser, unit, signature, buf.as_mut_ptr(), buf.len(), len) })
+    })
 }
 
-pub fn check(certificate: &[u8], verdicts: &[bool]) -> Result<Judged, Error> {
-    let (mut judged, mut answer) = (Judged::default(), Answer::default());
+pub fn certified(certificate: &[u8]) -> Result<Vec<Signed>, Error> {
+    // The shortest vertex, an endorsement, has 69 bytes.
+    let mut list = vec![Signed::default(); certificate.len() / 69 + 1];
+    let (mut count, mut answer) = (0, Answer::default());
     // SAFETY: all pointers are of borrows that last for the call.
     let status = unsafe {
-        exports::hw_check(
-            certificate.as_ptr(), certificate.len(), verdicts.as_ptr(), verdicts.len(), &mut judged, &mut answer,
+        exports::hw_certified(
+            certificate.as_ptr(), certificate.len(), list.as_mut_ptr(), list.len(), &mut count, &mut answer,
         )
     };
     Error::check(status, &answer)?;
-    Ok(judged)
+    list.truncate(count);
+    Ok(list)
+}
+
+pub fn check(certificate: &[u8], verdicts: &[bool]) -> Result<(Judged, Vec<u8>), Error> {
+    let verdicts: Vec<u32> = verdicts.iter().copied().map(u32::from).collect();
+    let (mut judged, mut answer, mut value) = (Judged::default(), Answer::default(), vec![0; 4096]);
+    // SAFETY: all pointers are of borrows that last for the call.
+    let status = unsafe {
+        exports::hw_check(
+            certificate.as_ptr(), certificate.len(), verdicts.as_ptr(), verdicts.len(), &mut judged,
+            value.as_mut_ptr(), value.len(), &mut answer,
+        )
+    };
+    Error::check(status, &answer)?;
+    value.truncate(judged.length as usize);
+    Ok((judged, value))
 }

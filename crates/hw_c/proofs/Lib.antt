@@ -3,3 +3,4 @@ pub mod Places
 pub mod StepLaws
 pub mod NameLaws
 pub mod DeliveryLaws
+pub mod FactLaws

@@ -4,9 +4,9 @@ use Rattle.std.specs.Prelude.{◌≡◌, ℕ, List, ◌++◌, length, take, drop
 use Rattle.hw_c.specs.declared.codes.Fault.{Fault}
 use Rattle.hw_c.specs.declared.put.WithBytes.{WithBytes}
 
--- as many of the bytes as fit, and after them what was there before
-abbrev pub copied : List ℕ → List ℕ → List ℕ
-copied bytes old = take (length old) bytes ++ drop (length bytes) old
+-- as many of the values as fit, and after them what was there before
+abbrev pub copied : {A : Type 0} → List A → List A → List A
+copied values old = take (length old) values ++ drop (length values) old
 
 -- As many bytes as fit are in the buffer, and the length counts all of them. After a fault nothing has changed.
 abbrev pub IsWritten : Result (List ℕ) Fault → List ℕ → List ℕ → ℕ → ℕ → Type 0

@@ -10,7 +10,7 @@ use Rattle.hw_types.specs.declared.answers.Decision.{Decision}
 use Rattle.hw_types.specs.Graph.{slot}
 use Rattle.hw_types.specs.Limits.{config_fault}
 use Rattle.hw_types.specs.Reading.{config_of, unit_of, vertex_of}
-use Rattle.hw_types.specs.Real.{CoreState, answer_in, after_in, panorama_in}
+use Rattle.hw_types.specs.Real.{CoreState, answer_in, after_in, panorama_in, received_in}
 use Rattle.hw_types.specs.Spelling.{SpellsVertex}
 use Rattle.hw_codec.specs.Decoded.{IsErrorOf}
 use Rattle.hw_core.specs.declared.place.Place.{Place}
@@ -25,6 +25,8 @@ use Rattle.hw_c.specs.declared.calls.Observed.{Observed}
 use Rattle.hw_c.specs.declared.calls.Placed.{Placed}
 use Rattle.hw_c.specs.declared.calls.Decided.{Decided}
 use Rattle.hw_c.specs.declared.needs.Missing.{Missing}
+use Rattle.hw_explain.specs.Report.{faulty_in}
+use Rattle.hw_c.specs.Buffers.{copied}
 use Rattle.hw_c.specs.Answers.{signed_of, summary_of, observed_of, placed_of, decided_of, missing_of}
 
 -- the call ran out of memory; it answers no other fault
@@ -52,6 +54,11 @@ abbrev pub IsWithSignature : List ℕ → List ℕ → Result (List ℕ) Fault �
 IsWithSignature unit signature (Ok bytes) = (u : WireUnit) × (unit_of unit ≡ Ok u) × SpellsVertex bytes (vertex.Unit (record { unit = u; signature = record { 0 = signature } }))
 IsWithSignature unit signature (Err (fault.Bytes e)) = IsErrorOf (unit_of unit) e
 IsWithSignature unit signature (Err f) = IsWant f
+
+-- the vertex of this validator's endorsement of the unit of this digest, with this signature
+abbrev pub IsEndorsement : ℕ → List ℕ → List ℕ → Result (List ℕ) Fault → Type 0
+IsEndorsement endorser unit signature (Ok bytes) = SpellsVertex bytes (vertex.Endorsement (record { unit = record { 0 = unit }; endorser = endorser; signature = record { 0 = signature } }))
+IsEndorsement endorser unit signature (Err f) = IsWant f
 
 -- ---- about a node
 
@@ -102,3 +109,8 @@ IsDecided c index (Err f) = ⊥
 abbrev pub IsUnmet : CoreState → List Missing → List Missing → Result ℕ Fault → Type 0
 IsUnmet c old new (Ok count) = (count ≤ length old) × (new ≡ map missing_of (take (length old) (unmet_in c)) ++ drop count old)
 IsUnmet c old new (Err f) = IsWant f × (new ≡ old)
+
+-- The faulty validators, as many as fit, and after them what was there before. The count is that of all of them.
+abbrev pub AreFaulty : CoreState → List ℕ → List ℕ → Result ℕ Fault → Type 0
+AreFaulty c old new (Ok count) = (count ≡ length (faulty_in c.config (received_in c))) × (new ≡ copied (faulty_in c.config (received_in c)) old)
+AreFaulty c old new (Err f) = IsWant f × (new ≡ old)

@@ -6,13 +6,15 @@ ghost use Rattle.hw_types.specs.declared.unit.SignedUnit.{SignedUnit};
 ghost use Rattle.hw_types.specs.declared.unit.Vertex.TheVariants as vertices;
 ghost use Rattle.hw_types.specs.Spelling.{VertexFits, digest_of};
 ghost use Rattle.hw_c.specs.Answers.{flag, digest_bytes, summary_of, observed_of, placed_of, decided_of};
-ghost use Rattle.hw_c.specs.Calls.{IsNodeOf, IsVertexDelivery, IsDelivery, IsEntry, IsSummary, IsObserved, IsPlaced, IsDecided};
+ghost use Rattle.hw_c.specs.Calls.{IsNodeOf, IsVertexDelivery, IsDelivery, IsEntry, IsSummary, IsObserved, IsPlaced, IsDecided, AreFaulty};
 ghost use Rattle.hw_c.specs.Named.{IsNameIn};
 
 use crate::codes::Fault;
+use crate::put::copy_all;
 use hw_admit::StateFault;
 use hw_codec::{decode_config, decode_vertex, encode_vertex};
 use hw_core::{Core, Place};
+use hw_explain::faulty;
 use hw_text::rule_number;
 use hw_types::{Bytes, Decision, Digest, Obs, Receipt, Vertex};
 use std::alloc::Global;
@@ -142,13 +144,15 @@ pub fn entry(alloc: Global, core: &Core, place: u64) -> Result<Bytes, Fault>
     Ok(encode_vertex(alloc, core.journal_at(place))?)
 }
 
-fn flag(holds: bool) -> u32
+/// 1 for yes, 0 for no.
+pub fn flag(holds: bool) -> u32
     ensures { result ≡ flag holds }
 {
     if holds { 1 } else { 0 }
 }
 
-fn digest_bytes(digest: Option<Digest>) -> [u8; 32]
+/// The bytes of a digest, or zeros where there is none.
+pub fn digest_bytes(digest: Option<Digest>) -> [u8; 32]
     ensures { result ≡ digest_bytes digest }
 {
     match digest {
@@ -176,7 +180,8 @@ pub fn summarize(core: &Core) -> Result<Summary, Fault>
     })
 }
 
-fn observed_of(observation: Obs) -> Observed
+/// What is observed of a validator: 0 nothing, 1 this is its latest unit, 2 it equivocated.
+pub fn observed_of(observation: Obs) -> Observed
     ensures { result ≡ observed_of observation }
 {
     match observation {
@@ -254,4 +259,12 @@ pub fn decision(core: &Core, index: u64) -> Result<Decided, Fault>
         return Err(Fault::Nothing);
     }
     Ok(decided_of(core.decision(index)))
+}
+
+/// Puts the faulty validators into the list, in rising order, as many as fit. Answers how many there are in all.
+pub fn put_faulty(alloc: Global, core: &Core, list: &mut [u32]) -> Result<usize, Fault>
+    ensures { AreFaulty core.now list.old list.new result }
+{
+    let found = faulty(alloc, core)?;
+    Ok(copy_all(found.as_slice(), list))
 }

@@ -2,7 +2,8 @@
 
 ghost use Rattle.std.specs.Prelude.{◌≡◌, None};
 ghost use Rattle.hw_c.specs.Audits.{IsAudit};
-ghost use Rattle.hw_c.specs.Calls.{IsEntry, IsSummary, IsObserved, IsPlaced, IsDecided, IsUnmet};
+ghost use Rattle.hw_c.specs.Calls.{IsEntry, IsSummary, IsObserved, IsPlaced, IsDecided, AreFaulty, IsUnmet};
+ghost use Rattle.hw_c.specs.Facts.{IsUnitFacts, IsSpelledFacts};
 ghost use Rattle.hw_c.specs.Handles.{Begins, Ends, Delivers, Reads, ReadsBoth};
 ghost use Rattle.hw_c.specs.Light.{IsCertificate};
 ghost use Rattle.hw_c.specs.Needed.{IsForNeed};
@@ -12,6 +13,7 @@ use crate::audits::{self, Audited};
 use crate::calls::{self, Decided, Observed, Placed, Summary};
 use crate::codes::Fault;
 use crate::deliveries::deliver_all;
+use crate::facts::{self, UnitFacts};
 use crate::handle::Handle;
 use crate::light;
 use crate::needs::{self, Missing};
@@ -96,12 +98,49 @@ impl Handle {
         self.fill_after(calls::place(&node, digest), node)
     }
 
+    /// What the journal's unit of this digest is, its value, and what it observes.
+    pub(crate) fn read_unit(
+        &mut self,
+        alloc: Global,
+        digest: &[u8; 32],
+        list: &mut [Observed],
+    ) -> Result<WithBytes<UnitFacts>, Fault>
+        ensures read { Reads (λ c. IsUnitFacts c digest.now list.old list.new) self.old.held result self.new.held }
+        ensures empty { self.old.held ≡ None → list.new ≡ list.old }
+    {
+        let node = self.take(alloc)?;
+        self.fill_after(facts::unit_facts(alloc, &node, digest, list), node)
+    }
+
+    /// What the unit of the vertex says, its value, and what it observes.
+    pub(crate) fn read_spelled(
+        &mut self,
+        alloc: Global,
+        vertex: &[u8],
+        list: &mut [Observed],
+    ) -> Result<WithBytes<UnitFacts>, Fault>
+        ensures read { Reads (λ c. IsSpelledFacts c.config vertex.now list.old list.new) self.old.held result self.new.held }
+        ensures empty { self.old.held ≡ None → list.new ≡ list.old }
+    {
+        let node = self.take(alloc)?;
+        self.fill_after(facts::spelled_facts(alloc, &node, vertex, list), node)
+    }
+
     /// The decided block of that place.
     pub(crate) fn read_decided(&mut self, alloc: Global, index: u64) -> Result<Decided, Fault>
         ensures { Reads (λ c. IsDecided c index) self.old.held result self.new.held }
     {
         let node = self.take(alloc)?;
         self.fill_after(calls::decision(&node, index), node)
+    }
+
+    /// Puts the faulty validators into the list. Answers how many there are.
+    pub(crate) fn read_faulty(&mut self, alloc: Global, list: &mut [u32]) -> Result<usize, Fault>
+        ensures read { Reads (λ c. AreFaulty c list.old list.new) self.old.held result self.new.held }
+        ensures empty { self.old.held ≡ None → list.new ≡ list.old }
+    {
+        let node = self.take(alloc)?;
+        self.fill_after(calls::put_faulty(alloc, &node, list), node)
     }
 
     /// The first needs that parked units miss, as many as fit. Answers how many that are.

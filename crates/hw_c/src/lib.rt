@@ -10,21 +10,24 @@
 #![tactic(auto)]
 
 ghost use Rattle.std.specs.Prelude.{◌≡◌, ℕ, List, Result, None};
+ghost use Rattle.sha2.specs.Sha256.{sha256};
 ghost use Rattle.hw_c.specs.declared.audits.Audited.{Audited};
 ghost use Rattle.hw_c.specs.declared.calls.Decided.{Decided};
 ghost use Rattle.hw_c.specs.declared.calls.Observed.{Observed};
 ghost use Rattle.hw_c.specs.declared.calls.Placed.{Placed};
 ghost use Rattle.hw_c.specs.declared.calls.Summary.{Summary};
 ghost use Rattle.hw_c.specs.declared.codes.Fault.{Fault};
+ghost use Rattle.hw_c.specs.declared.facts.UnitFacts.{UnitFacts};
 ghost use Rattle.hw_c.specs.declared.light.Judged.{Judged};
 ghost use Rattle.hw_c.specs.declared.put.WithBytes.{WithBytes};
 ghost use Rattle.hw_c.specs.declared.signed.Signed.{Signed};
 ghost use Rattle.hw_c.specs.declared.steps.Planned.{Planned};
 ghost use Rattle.hw_c.specs.Audits.{IsAudit};
 ghost use Rattle.hw_c.specs.Buffers.{IsWritten, IsPutWithBytes};
-ghost use Rattle.hw_c.specs.Calls.{IsSigned, IsEntry, IsSummary, IsObserved, IsPlaced, IsDecided, IsUnmet, IsWithSignature};
+ghost use Rattle.hw_c.specs.Calls.{IsSigned, IsEntry, IsSummary, IsObserved, IsPlaced, IsDecided, AreFaulty, IsUnmet, IsWithSignature, IsEndorsement};
+ghost use Rattle.hw_c.specs.Facts.{IsUnitFacts, IsSpelledFacts};
 ghost use Rattle.hw_c.specs.Handles.{Begins, Ends, Delivers, Reads, ReadsBoth};
-ghost use Rattle.hw_c.specs.Light.{IsCertificate, IsCertifiedSigned, IsJudged};
+ghost use Rattle.hw_c.specs.Light.{IsCertificate, AreCertifiedSigned, IsJudged};
 ghost use Rattle.hw_c.specs.Needed.{IsForNeed};
 ghost use Rattle.hw_c.specs.Settings.{IsConfig};
 ghost use Rattle.hw_c.specs.Steps.{IsStep};
@@ -35,6 +38,7 @@ mod calls;
 mod codes;
 mod content;
 mod deliveries;
+mod facts;
 mod handle;
 mod held;
 mod light;
@@ -49,15 +53,38 @@ mod steps;
 pub use audits::Audited;
 pub use calls::{Decided, Observed, Placed, Summary};
 pub use codes::Answer;
+pub use facts::UnitFacts;
 pub use handle::Handle;
 pub use light::Judged;
 pub use needs::Missing;
-use put::{put, put_both, put_bytes, put_bytes_with, put_done, put_with};
+use put::{put, put_both, put_both_with, put_bytes, put_bytes_with, put_done, put_with};
 pub use sent::{Delivered, Sent};
 pub use settings::Settings;
 pub use signed::{Signed, Signer};
+use sha2::{Digest as _, Sha256};
 use std::alloc::Global;
 pub use steps::Planned;
+
+/// The version of these declarations: of 1.2.3 the number 0x010203.
+pub const VERSION: u32 = 0x000200;
+
+/// The version that the library was built with.
+#[unsafe(no_mangle)]
+pub extern "C" fn hw_version(_alloc: Global) -> u32
+    ensures { result ≡ 512 }
+{
+    VERSION
+}
+
+/// The SHA-256 digest of the bytes.
+#[unsafe(no_mangle)]
+pub extern "C" fn hw_sha256(_alloc: Global, bytes: &[u8], digest: &mut [u8; 32]) -> u32
+    ensures digest { digest.new ≡ sha256 bytes.now }
+    ensures status { result ≡ 0 }
+{
+    *digest = Sha256::digest(bytes);
+    codes::OK
+}
 
 /// Spells the configuration with these fields as bytes.
 #[unsafe(no_mangle)]
@@ -181,6 +208,42 @@ pub extern "C" fn hw_place(
     put(outcome, placed)
 }
 
+/// What the journal's unit of this digest is: what it says, what became of it, and where it is settled its vote, parent
+/// and height. As many bytes of its value as fit go into the buffer, and as many of its observations into the list.
+#[unsafe(no_mangle)]
+pub extern "C" fn hw_unit(
+    alloc: Global,
+    core: &mut Handle,
+    digest: &[u8; 32],
+    facts: &mut UnitFacts,
+    list: &mut [Observed],
+    buf: &mut [u8],
+) -> u32
+    ensures read { (r : Result (WithBytes UnitFacts) Fault) × Reads (λ c. IsUnitFacts c digest.now list.old list.new) core.old.held r core.new.held × IsPutWithBytes r facts.old facts.new buf.old buf.new × (result ≡ status r) }
+    ensures empty { core.old.held ≡ None → list.new ≡ list.old }
+{
+    let outcome = core.read_unit(alloc, digest, list);
+    put_both(outcome, facts, buf)
+}
+
+/// What the unit of the vertex that the bytes spell says, whether or not the node has it, with its round and the leader
+/// of that. As many bytes of its value as fit go into the buffer, and as many of its observations into the list.
+#[unsafe(no_mangle)]
+pub extern "C" fn hw_spelled_unit(
+    alloc: Global,
+    core: &mut Handle,
+    vertex: &[u8],
+    facts: &mut UnitFacts,
+    list: &mut [Observed],
+    buf: &mut [u8],
+) -> u32
+    ensures read { (r : Result (WithBytes UnitFacts) Fault) × Reads (λ c. IsSpelledFacts c.config vertex.now list.old list.new) core.old.held r core.new.held × IsPutWithBytes r facts.old facts.new buf.old buf.new × (result ≡ status r) }
+    ensures empty { core.old.held ≡ None → list.new ≡ list.old }
+{
+    let outcome = core.read_spelled(alloc, vertex, list);
+    put_both(outcome, facts, buf)
+}
+
 /// The decided block of that place.
 #[unsafe(no_mangle)]
 pub extern "C" fn hw_decision(
@@ -193,6 +256,21 @@ pub extern "C" fn hw_decision(
 {
     let outcome = core.read_decided(alloc, index);
     put(outcome, decided)
+}
+
+/// The faulty validators in rising order, as many as fit. The count is that of all of them.
+#[unsafe(no_mangle)]
+pub extern "C" fn hw_faulty(
+    alloc: Global,
+    core: &mut Handle,
+    list: &mut [u32],
+    count: &mut usize,
+) -> u32
+    ensures read { (r : Result ℕ Fault) × Reads (λ c. AreFaulty c list.old list.new) core.old.held r core.new.held × Puts r count.old count.new result }
+    ensures empty { core.old.held ≡ None → list.new ≡ list.old }
+{
+    let outcome = core.read_faulty(alloc, list);
+    put(outcome, count)
 }
 
 /// The first needs that parked units miss, as many as fit. The count says how many that are.
@@ -259,6 +337,22 @@ pub extern "C" fn hw_with_signature(
     put_bytes_with(outcome, buf, len, answer)
 }
 
+/// The vertex of the validator's endorsement of the unit of this digest, with its signature, as bytes.
+#[unsafe(no_mangle)]
+pub extern "C" fn hw_endorsement(
+    alloc: Global,
+    endorser: u32,
+    unit: &[u8; 32],
+    signature: &[u8; 32],
+    buf: &mut [u8],
+    len: &mut usize,
+) -> u32
+    ensures { (r : Result (List ℕ) Fault) × IsEndorsement endorser unit.now signature.now r × IsWritten r buf.old buf.new len.old len.new × (result ≡ status r) }
+{
+    let outcome = signed::endorsement(alloc, endorser, unit, signature);
+    put_bytes(outcome, buf, len)
+}
+
 /// Audits the journals of two nodes against each other, and writes the result as text too. The two handles must
 /// be different ones.
 #[unsafe(no_mangle)]
@@ -290,32 +384,35 @@ pub extern "C" fn hw_certificate(
     put_bytes(outcome, buf, len)
 }
 
-/// Who signed the vertex of that place in the certificate that the bytes spell, and which units.
+/// Who signed each vertex of the certificate that the bytes spell, and which units: as many as fit. The count is that of
+/// all its vertices.
 #[unsafe(no_mangle)]
 pub extern "C" fn hw_certified(
     alloc: Global,
     certificate: &[u8],
-    place: usize,
-    signed: &mut Signed,
+    list: &mut [Signed],
+    count: &mut usize,
     answer: &mut Answer,
 ) -> u32
-    ensures { (r : Result Signed Fault) × IsCertifiedSigned certificate.now place r × PutsWith r signed.old signed.new answer.new result }
+    ensures { (r : Result ℕ Fault) × AreCertifiedSigned certificate.now list.old list.new r × PutsWith r count.old count.new answer.new result }
 {
-    let outcome = light::certified_signatures(alloc, certificate, place);
-    put_with(outcome, signed, answer)
+    let outcome = light::certified_signatures(alloc, certificate, list);
+    put_with(outcome, count, answer)
 }
 
-/// The answer to the certificate that the bytes spell, with these verdicts on the signatures of its vertices.
+/// The answer to the certificate that the bytes spell, with these verdicts on the signatures of its vertices: 0 no, 1
+/// yes. After a yes as many bytes of the block's value as fit go into the buffer.
 #[unsafe(no_mangle)]
 pub extern "C" fn hw_check(
     alloc: Global,
     certificate: &[u8],
-    verdicts: &[bool],
+    verdicts: &[u32],
     judged: &mut Judged,
+    buf: &mut [u8],
     answer: &mut Answer,
 ) -> u32
-    ensures { (r : Result Judged Fault) × IsJudged certificate.now verdicts.now r × PutsWith r judged.old judged.new answer.new result }
+    ensures { (r : Result (WithBytes Judged) Fault) × IsJudged certificate.now verdicts.now r × IsPutWithBytes r judged.old judged.new buf.old buf.new × (result ≡ status r) × (answer.new ≡ behind r) }
 {
     let outcome = light::judgement(alloc, certificate, verdicts);
-    put_with(outcome, judged, answer)
+    put_both_with(outcome, judged, buf, answer)
 }

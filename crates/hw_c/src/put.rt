@@ -96,13 +96,21 @@ pub fn copy_bytes(bytes: &[u8], buf: &mut [u8]) -> usize
     ensures count { result ≡ length bytes.now }
     ensures copied { buf.new ≡ copied bytes.now buf.old }
 {
-    let count = if bytes.len() < buf.len() {
-        bytes.len()
+    copy_all(bytes, buf)
+}
+
+/// Copies as many values as fit, and answers how many there are in all.
+pub fn copy_all<T: Copy>(values: &[T], list: &mut [T]) -> usize
+    ensures count { result ≡ length values.now }
+    ensures copied { list.new ≡ copied values.now list.old }
+{
+    let count = if values.len() < list.len() {
+        values.len()
     } else {
-        buf.len()
+        list.len()
     };
-    buf[..count].copy_from_slice(&bytes[..count]);
-    bytes.len()
+    list[..count].copy_from_slice(&values[..count]);
+    values.len()
 }
 
 /// Puts bytes and their count, if the call succeeded, and answers the status.
@@ -131,6 +139,31 @@ pub fn put_both<T: Copy>(outcome: Result<WithBytes<T>, Fault>, out: &mut T, buf:
             OK
         }
         Err(fault) => status_of(fault),
+    }
+}
+
+/// The same, and puts the details of the status.
+pub fn put_both_with<T: Copy>(
+    outcome: Result<WithBytes<T>, Fault>,
+    out: &mut T,
+    buf: &mut [u8],
+    answer: &mut Answer,
+) -> u32
+    ensures status { result ≡ status outcome }
+    ensures put { IsPutWithBytes outcome out.old out.new buf.old buf.new }
+    ensures answer { answer.new ≡ behind outcome }
+{
+    match outcome {
+        Ok(WithBytes { value, bytes }) => {
+            *out = value;
+            copy_bytes(bytes.as_slice(), buf);
+            *answer = blank();
+            OK
+        }
+        Err(fault) => {
+            *answer = answer_of(fault);
+            status_of(fault)
+        }
     }
 }
 

@@ -2,11 +2,11 @@
 
 ghost use Rattle.std.specs.Prelude.{◌≡◌, IfOk};
 ghost use Rattle.hw_types.specs.Spelling.{Fits, VertexFits};
-ghost use Rattle.hw_c.specs.{Answers.{signer_of, signed_of, no_signer}, Calls.{IsSigned}};
+ghost use Rattle.hw_c.specs.{Answers.{signer_of, signed_of, no_signer}, Calls.{IsSigned, IsEndorsement}};
 
 use crate::codes::Fault;
-use hw_codec::{decode_vertex, digest_of};
-use hw_types::{Endorsement, OutOfMemory, SignedUnit, Vertex};
+use hw_codec::{decode_vertex, digest_of, encode_vertex};
+use hw_types::{Bytes, Digest, Endorsement, OutOfMemory, Signature, SignedUnit, Vertex};
 use std::alloc::Global;
 
 /// A validator's signature of the digest of a unit.
@@ -100,4 +100,21 @@ pub fn signatures(alloc: Global, bytes: &[u8]) -> Result<Signed, Fault>
 {
     let vertex = decode_vertex(alloc, bytes)?;
     Ok(signed_of(alloc, &vertex)?)
+}
+
+/// The vertex of an endorsement of the unit of this digest, as bytes. Its endorser has signed that digest.
+pub fn endorsement(
+    alloc: Global,
+    endorser: u32,
+    unit: &[u8; 32],
+    signature: &[u8; 32],
+) -> Result<Bytes, Fault>
+    ensures { IsEndorsement endorser unit.now signature.now result }
+{
+    let vertex = Vertex::Endorsement(Endorsement {
+        unit: Digest(*unit),
+        endorser,
+        signature: Signature(*signature),
+    });
+    Ok(encode_vertex(alloc, &vertex)?)
 }

@@ -105,7 +105,10 @@ class Headline(unittest.TestCase):
 
     def test_what_is_worked_out_is_told_where_it_is_met(self):
         never = headline.Instead("never", "hw_high", (), "nothing")
-        with mock.patch.dict(headline.INSTEAD, {"hw_low.Low.unused": never, "hw_low.Low.beside": headline.Instead("law", "hw_low", (), "one number")}):
+        with mock.patch.dict(
+            headline.INSTEAD,
+            {"hw_low.Low.unused": never, "hw_low.Low.beside": headline.Instead("law", "hw_low", (), "one number")},
+        ):
             self.ran()
         self.assertIn("| `beside` | `law` (hw_low) | one number |", self.page())
         self.assertNotIn("never", self.page())

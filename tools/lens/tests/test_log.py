@@ -11,6 +11,7 @@ from lens.log import (
     Lasts,
     LogReader,
     SignedUnit,
+    StandIn,
     Unit,
     config_fault,
     is_signed,
@@ -257,8 +258,8 @@ class Keys(Files):
         world = running_example()
         for word in ("a0", "d0/f0", "b2:1"):
             self.assertTrue(is_signed(world.vertex(word), world.keys))
-            self.assertFalse(is_signed(world.vertex(word), world.keys[::-1]))
-            self.assertFalse(is_signed(world.vertex(word), []))
+            self.assertFalse(is_signed(world.vertex(word), StandIn(world.keys[::-1])))
+            self.assertFalse(is_signed(world.vertex(word), StandIn()))
         stranger = world.signed(with_digest(Unit(world.config.instance, 7, 0, 16, 4, ("-",) * 4, b"x", ())))
         self.assertIsInstance(stranger, SignedUnit)
         self.assertFalse(is_signed(stranger, world.keys))
