@@ -1,27 +1,31 @@
 //! When a validator has to act, and what for.
 
-ghost use Rattle.std.specs.Prelude.{◌≡◌, ℕ, ◌<◌, ◌≤◌, ◌^◌, length, IfOk, Option, Some, None};
-ghost use Rattle.hw_types.specs.declared.answers.Plan.{Plan as Planning};
-ghost use Rattle.hw_types.specs.Spelling.{Fits, digest_of};
-ghost use Rattle.hw_dag.specs.Dag.{count_of, graph, unit_at};
+ghost use Rattle.std.specs.Prelude.{◌≡◌, ℕ, ◌+◌, ◌^◌, ◌<◌, ◌≤◌, ◌&&◌, ◌||◌, not, nat_lt, ◌==◌, length, None, IfOk, IfSome, if◌then◌else◌};
+ghost use Rattle.hw_types.specs.Graph.{is_faulty_mark};
+ghost use Rattle.hw_types.specs.Limits.{config_fault};
+ghost use Rattle.hw_dag.specs.Dag.{count_of, obs_of, IsPanorama};
+ghost use Rattle.hw_dag.specs.Lanes.{AreWeights};
 ghost use Rattle.hw_dag.specs.declared.numbers.UnitNo.{UnitNo as Number};
 ghost use Rattle.hw_dag.specs.declared.numbers.View.TheVariants as view;
-ghost use Rattle.hw_types.specs.Real.{CoreState, settled_in, panorama_in};
-ghost use Rattle.hw_types.specs.Graph.{slot};
-ghost use Rattle.hw_c.specs.Due.{IsDue, IsMomentOf, IsFirstLater};
+ghost use Rattle.hw_validator.specs.Step.{is_for_nothing};
+ghost use Rattle.hw_c.specs.Due.{IsDue, IsDueNow, IsMomentOf, IsViewOf, IsFirstLater, IsNext, IsFit, kind_of, why_by, why_over, is_held_by, stands_on, proposed_on, name_of};
 
 use crate::calls::{digest_bytes, flag};
 use crate::codes::Fault;
-use crate::steps::planned_unit;
-use hw_admit::State;
-use hw_codec::digest_of;
+use crate::own::{is_earlier, may_not_follow};
+use crate::steps::{plan_number, planned_unit};
 use hw_core::Core;
-use hw_dag::{Dag, UnitNo, View};
+use hw_dag::{Dag, Panorama, UnitNo, View};
 use hw_forks::Forks;
-use hw_rounds::{round_id, witness_time};
-use hw_rules::{may_follow, wire_unit};
-use hw_types::{Config, Digest, END_OF_TIME, OutOfMemory, Plan, PlanKind, Signature, SignedUnit, WireUnit};
+use hw_rounds::{LeaderTable, round_id, witness_time};
+use hw_rules::wire_unit;
+use hw_types::{
+    Config, Digest, END_OF_TIME, OutOfMemory, Plan, PlanKind, Signature, SignedUnit, WireUnit,
+};
 use std::alloc::Global;
+
+/// The kind where nothing is due.
+const NOTHING: u32 = 3;
 
 /// What a validator has to make at a moment, and until when that stays so.
 #[repr(C)]
@@ -47,7 +51,7 @@ pub struct Due {
 /// A moment in its round.
 #[derive(Clone, Copy)]
 struct Moment {
-    now: u64,
+    at: u64,
     round: u64,
     witness: u64,
     leader: u32,
@@ -55,23 +59,34 @@ struct Moment {
 
 impl Moment {
     /// The moment in the round of the least exponent.
-    fn of(state: &State, now: u64) -> Moment
-        requires { now < 2 ^ 63 }
-        ensures { IsMomentOf state.now.config now result }
+    fn of(config: &Config, leaders: &LeaderTable, now: u64) -> Moment
+        requires exponent { config.now.min_exponent ≤ 40 }
+        requires leaders { leaders.now ≡ config.now }
+        requires now { now < 2 ^ 63 }
+        ensures at { result.at ≡ now }
+        ensures moment { IsMomentOf config.now result }
     {
-        let exponent = state.config().min_exponent;
-        let round = round_id(now, exponent);
+        let round = round_id(now, config.min_exponent);
         Moment {
-            now,
+            at: now,
             round,
-            witness: witness_time(round, exponent),
-            leader: state.leaders().leader(round),
+            witness: witness_time(round, config.min_exponent),
+            leader: leaders.leader(round),
         }
     }
 
+    /// Whether it is before the time of the round's witnesses.
+    fn is_early(&self) -> bool
+        ensures { result ≡ nat_lt self.now.at self.now.witness }
+    {
+        self.at < self.witness
+    }
+
     /// When this part of the round began: the round, or the time of its witnesses.
-    fn part(&self) -> u64 {
-        if self.now < self.witness {
+    fn part(&self) -> u64
+        ensures { result ≡ (if nat_lt self.now.at self.now.witness then self.now.round else self.now.witness) }
+    {
+        if self.at < self.witness {
             self.round
         } else {
             self.witness
@@ -79,65 +94,119 @@ impl Moment {
     }
 
     /// When this part of the round ends.
-    fn end(&self, exponent: u8) -> u64 {
-        if self.now < self.witness {
+    fn end(&self, exponent: u8) -> u64
+        requires exponent { exponent ≤ 40 }
+        requires round { self.now.round < 2 ^ 63 }
+        ensures { result ≡ (if nat_lt self.now.at self.now.witness then self.now.witness else self.now.round + 2 ^ exponent) }
+    {
+        if self.at < self.witness {
             self.witness
         } else {
             self.round + (1 << exponent)
         }
     }
-}
 
-/// Whether there is no unit there, or it is earlier than that.
-fn is_earlier(dag: &Dag, view: View, time: u64) -> bool {
-    match view {
-        View::Correct(last) => wire_unit(dag, last).time < time,
-        View::Absent | View::Faulty => true,
-    }
-}
-
-/// Whether two units of the lane that ends with this one are in the round.
-fn two_in_round(dag: &Dag, last: UnitNo, round: u64, exponent: u8) -> bool {
-    if round_id(wire_unit(dag, last).time, exponent) != round {
-        return false;
-    }
-    match dag.predecessor(last) {
-        Some(before) => round_id(wire_unit(dag, before).time, exponent) == round,
-        None => false,
+    /// The time of a unit that is made now: a leader's before the time of the witnesses has that of the round.
+    fn time(&self, leads: bool) -> u64
+        ensures { result ≡ (if leads && nat_lt self.now.at self.now.witness then self.now.round else self.now.at) }
+    {
+        if leads && self.at < self.witness {
+            self.round
+        } else {
+            self.at
+        }
     }
 }
 
-/// Whether the validator's last unit allows none at the moment.
-fn is_held(dag: &Dag, own: View, moment: &Moment, exponent: u8, time: u64) -> bool {
-    let View::Correct(last) = own else {
-        return false;
-    };
-    let unit = wire_unit(dag, last);
-    time < unit.time
-        || unit.time >= moment.part()
-        || two_in_round(dag, last, moment.round, exponent)
-        || !may_follow(unit.time, unit.exponent, time, exponent)
+/// Whether the validator's last unit is in this part of the round or later, or allows none to follow it at that time.
+fn is_held(dag: &Dag, own: View, part: u64, time: u64, config: &Config) -> bool
+    requires known { (number : Number) → own ≡ view.Correct number → number.0 < count_of dag.now }
+    requires exponent { config.now.min_exponent ≤ 40 }
+    ensures { result ≡ is_held_by dag.now config.now own part time }
+{
+    match own {
+        View::Absent => false,
+        View::Correct(last) => {
+            !is_earlier(dag, own, part) || may_not_follow(dag, last, time, config.min_exponent)
+        }
+        View::Faulty => true,
+    }
 }
 
-/// Why nothing is due.
-fn why(state: &State, me: u32, moment: &Moment) -> u32 {
-    let exponent = state.config().min_exponent;
-    let own = state.panorama().get(me);
-    let leads = me == moment.leader;
-    let is_early = moment.now < moment.witness;
-    let time = if leads && is_early { moment.round } else { moment.now };
-    if let View::Faulty = own {
-        return 1;
+/// Whether it is the mark of a fault.
+fn is_faulty(dag: &Dag, own: View) -> bool
+    ensures { result ≡ is_faulty_mark (obs_of dag.now own) }
+{
+    let _ = dag;
+    match own {
+        View::Faulty => true,
+        View::Absent | View::Correct(_) => false,
     }
-    if is_held(state.dag(), own, moment, exponent, time) {
-        return 2;
-    }
-    if !is_early {
+}
+
+/// Why nothing is due, by what is so.
+fn why_by(is_faulty: bool, is_held: bool, is_early: bool, leads: bool) -> u32
+    ensures { result ≡ why_by is_faulty is_held is_early leads }
+{
+    if is_faulty {
+        1
+    } else if is_held {
+        2
+    } else if !is_early {
         5
     } else if leads {
         3
     } else {
         4
+    }
+}
+
+/// Why nothing is due.
+fn why(dag: &Dag, config: &Config, observed: &Panorama, me: u32, moment: &Moment) -> u32
+    requires exponent { config.now.min_exponent ≤ 40 }
+    requires observed { IsPanorama dag.now observed.now }
+    requires me { me < dag.now.validators }
+    requires moment { IsMomentOf config.now moment.now }
+    ensures { result ≡ why_over dag.now config.now observed.now me moment.now.at }
+{
+    let own = observed.get(me);
+    let leads = me == moment.leader;
+    let held = is_held(dag, own, moment.part(), moment.time(leads), config);
+    why_by(is_faulty(dag, own), held, moment.is_early(), leads)
+}
+
+/// Why nothing is due, where this kind is nothing; else 0.
+fn why_of(
+    kind: u32,
+    dag: &Dag,
+    config: &Config,
+    observed: &Panorama,
+    me: u32,
+    moment: &Moment,
+) -> u32
+    requires exponent { config.now.min_exponent ≤ 40 }
+    requires observed { IsPanorama dag.now observed.now }
+    requires me { me < dag.now.validators }
+    requires moment { IsMomentOf config.now moment.now }
+    ensures { result ≡ (if kind == 3 then why_over dag.now config.now observed.now me moment.now.at else 0) }
+{
+    if kind == NOTHING {
+        why(dag, config, observed, me, moment)
+    } else {
+        0
+    }
+}
+
+/// The time, where it is later than the moment and before the first; else the first.
+fn sooner(now: u64, time: u64, first: u64) -> u64
+    ensures later { now < first → now < result }
+    ensures within { result ≤ first }
+    ensures free { now < time → result ≤ time }
+{
+    if now < time && time < first {
+        time
+    } else {
+        first
     }
 }
 
@@ -147,37 +216,71 @@ fn first_later(dag: &Dag, now: u64, end: u64) -> u64
     ensures { IsFirstLater dag.now now end result }
 {
     let mut first = end;
-    'units: for no in 0..dag.count() {
-        let time = wire_unit(dag, UnitNo(no)).time;
-        if now < time && time < first {
-            first = time;
-        }
+    for no in 0..dag.count() {
+        first = sooner(now, wire_unit(dag, UnitNo(no)).time, first);
     }
     first
 }
 
-/// Until when the step stays what it is, while the journal does.
-fn next_moment(state: &State, me: u32, moment: &Moment) -> u64 {
-    let dag = state.dag();
-    let end = moment.end(state.config().min_exponent);
-    let own = state.panorama().get(me);
-    let is_early = moment.now < moment.witness;
-    let waits = is_early && me != moment.leader && is_earlier(dag, state.panorama().get(moment.leader), moment.round);
-    if waits || !is_earlier(dag, own, moment.part()) {
+/// Whether a unit is for nothing, whatever it observes: the own last one is too late, or another leads and isn't seen
+/// in the round.
+fn is_for_nothing(
+    dag: &Dag,
+    config: &Config,
+    observed: &Panorama,
+    me: u32,
+    moment: &Moment,
+) -> bool
+    requires observed { IsPanorama dag.now observed.now }
+    requires leader { moment.now.leader < dag.now.validators }
+    requires me { me < dag.now.validators }
+    requires moment { IsMomentOf config.now moment.now }
+    ensures { result ≡ is_for_nothing dag.now config.now observed.now me moment.now.at }
+{
+    let own = observed.get(me);
+    if !moment.is_early() {
+        return !is_earlier(dag, own, moment.witness);
+    }
+    let seen = observed.get(moment.leader);
+    !is_earlier(dag, own, moment.round)
+        || (me != moment.leader && is_earlier(dag, seen, moment.round))
+}
+
+/// Until when the step stays what it is, while the journal does. The settled units count only where a unit could be
+/// for something: then what it may cite depends on their times.
+fn next_moment(dag: &Dag, config: &Config, observed: &Panorama, me: u32, moment: &Moment) -> u64
+    requires exponent { config.now.min_exponent ≤ 40 }
+    requires now { moment.now.at < 2 ^ 63 }
+    requires weights { AreWeights config.now.weights dag.now }
+    requires observed { IsPanorama dag.now observed.now }
+    requires me { me < dag.now.validators }
+    requires moment { IsMomentOf config.now moment.now }
+    ensures { IsNext dag.now config.now observed.now me moment.now.at result }
+{
+    let end = moment.end(config.min_exponent);
+    if is_for_nothing(dag, config, observed, me, moment) {
         end
     } else {
-        first_later(dag, moment.now, end)
+        first_later(dag, moment.at, end)
     }
 }
 
-/// The block that a unit with the panorama of this one stands on.
-fn parent_of(alloc: Global, state: &State, unit: WireUnit) -> Result<Option<Digest>, OutOfMemory>
-    requires { Fits unit }
+/// The block that this unit would stand on.
+fn parent_of(
+    alloc: Global,
+    dag: &Dag,
+    config: &Config,
+    unit: WireUnit,
+) -> Result<Option<Digest>, OutOfMemory>
+    requires weights { AreWeights config.now.weights dag.now }
+    requires fit { IsFit dag.now config.now unit }
+    ensures { IfOk result (λ found. found ≡ name_of (stands_on dag.now config.now unit.panorama)) }
 {
-    let dag = state.dag();
-    let name = digest_of(alloc, &unit)?;
-    let signed = SignedUnit { unit, signature: Signature([0; 32]) };
-    let Ok(mut prepared) = dag.prepare(signed, name) else {
+    let signed = SignedUnit {
+        unit,
+        signature: Signature([0; 32]),
+    };
+    let Ok(mut prepared) = dag.prepare(signed, Digest([0; 32])) else {
         return Err(OutOfMemory);
     };
     if !dag.resolve(&mut prepared) {
@@ -185,10 +288,88 @@ fn parent_of(alloc: Global, state: &State, unit: WireUnit) -> Result<Option<Dige
     }
     let mut forks = Forks::new(alloc);
     forks.reserve(dag.validators())?;
-    match forks.fork_choice(dag, &state.config().weights, prepared.panorama()) {
+    match forks.fork_choice(dag, &config.weights, prepared.panorama()) {
         Some(block) => Ok(Some(*dag.unit(block).digest())),
         None => Ok(None),
     }
+}
+
+/// The block that a proposal would stand on, where this is one.
+fn parent_of_plan(
+    alloc: Global,
+    dag: &Dag,
+    config: &Config,
+    plan: Option<Plan>,
+) -> Result<Option<Digest>, OutOfMemory>
+    requires weights { AreWeights config.now.weights dag.now }
+    requires fit { IfSome plan (λ p. IsFit dag.now config.now p.unit) }
+    ensures { IfOk result (λ found. found ≡ name_of (proposed_on dag.now config.now plan)) }
+{
+    let Some(plan) = plan else {
+        return Ok(None);
+    };
+    match plan.kind {
+        PlanKind::Propose => parent_of(alloc, dag, config, plan.unit),
+        PlanKind::Confirm | PlanKind::Witness => Ok(None),
+    }
+}
+
+/// What the plan is for.
+fn kind_of(plan: &Option<Plan>) -> u32
+    ensures { result ≡ kind_of plan.now }
+{
+    match plan {
+        Some(plan) => plan_number(plan.kind),
+        None => NOTHING,
+    }
+}
+
+/// What the validator has to make at this moment, and until when that stays so, by the node's graph and what it observes
+/// there.
+fn due_over(
+    alloc: Global,
+    core: &Core,
+    dag: &Dag,
+    config: &Config,
+    observed: &Panorama,
+    me: u32,
+    moment: &Moment,
+) -> Result<Due, OutOfMemory>
+    requires seen { IsViewOf core.now dag.now config.now observed.now }
+    requires weights { AreWeights config.now.weights dag.now }
+    requires lawful { config_fault config.now ≡ None }
+    requires me { me < dag.now.validators }
+    requires now { moment.now.at < 2 ^ 63 }
+    requires moment { IsMomentOf config.now moment.now }
+    ensures { IfOk result (IsDueNow core.now me moment.now.at) }
+{
+    let plan = planned_unit(alloc, core, me, moment.at, &[])?;
+    let kind = kind_of(&plan);
+    let found = parent_of_plan(alloc, dag, config, plan)?;
+    let parent = digest_bytes(found);
+    Ok(Due {
+        kind,
+        why: why_of(kind, dag, config, observed, me, moment),
+        leader: moment.leader,
+        has_parent: flag(found.is_some()),
+        round: moment.round,
+        next: next_moment(dag, config, observed, me, moment),
+        parent,
+    })
+}
+
+/// What the validator has to make at this moment, and until when that stays so.
+fn due_at(alloc: Global, core: &Core, me: u32, now: u64) -> Result<Due, OutOfMemory>
+    requires me { me < length core.now.config.weights }
+    requires now { now < 2 ^ 63 }
+    ensures { IfOk result (IsDueNow core.now me now) }
+{
+    let state = core.state();
+    let dag = state.dag();
+    let config = state.config();
+    let observed = state.panorama();
+    let moment = Moment::of(config, state.leaders(), now);
+    due_over(alloc, core, dag, config, observed, me, &moment)
 }
 
 /// What the validator has to make at this moment, and until when that stays so while the journal does. `OutOfRange`
@@ -196,32 +377,11 @@ fn parent_of(alloc: Global, state: &State, unit: WireUnit) -> Result<Option<Dige
 pub fn due_now(alloc: Global, core: &Core, me: u32, now: u64) -> Result<Due, Fault>
     ensures { IsDue core.now me now result }
 {
-    let state = core.state();
-    if me as usize >= state.config().weights.len() || now >= END_OF_TIME {
+    if me as usize >= core.state().config().weights.len() {
         return Err(Fault::OutOfRange);
     }
-    let moment = Moment::of(state, now);
-    let plan = planned_unit(alloc, core, me, now, &[])?;
-    let mut due = Due {
-        kind: 3,
-        why: 0,
-        leader: moment.leader,
-        has_parent: 0,
-        round: moment.round,
-        next: next_moment(state, me, &moment),
-        parent: [0; 32],
-    };
-    match plan {
-        None => due.why = why(state, me, &moment),
-        Some(Plan { kind: PlanKind::Propose, unit }) => {
-            due.kind = 0;
-            let found = parent_of(alloc, state, unit)?;
-            let parent = digest_bytes(found);
-            due.has_parent = flag(found.is_some());
-            due.parent = parent;
-        }
-        Some(Plan { kind: PlanKind::Confirm, .. }) => due.kind = 1,
-        Some(Plan { kind: PlanKind::Witness, .. }) => due.kind = 2,
+    if now >= END_OF_TIME {
+        return Err(Fault::OutOfRange);
     }
-    Ok(due)
+    Ok(due_at(alloc, core, me, now)?)
 }

@@ -47,6 +47,7 @@ mod held;
 mod light;
 mod names;
 mod needs;
+mod own;
 mod put;
 mod sent;
 mod settings;

@@ -41,7 +41,7 @@ pub(crate) fn planned_unit(
     next_unit_of(alloc, core.state(), core.instance(), me, now, value)
 }
 
-fn plan_number(kind: PlanKind) -> u32
+pub(crate) fn plan_number(kind: PlanKind) -> u32
     ensures { result ≡ plan_number kind }
 {
     match kind {
