@@ -1,7 +1,7 @@
 -- Until the next moment a step stays what it is.
-use Rattle.std.proofs.Common.{◌≡◌, ℕ, ◌+◌, ◌*◌, ◌-◌, ◌/◌, ◌^◌, ◌<◌, ◌≤◌, ◌⊎◌, inl, inr, Bool, true, false, cond, not, List, [], ◌∷◌, length, Option, Some, None, refl, sym, ap, subst, ◌∙◌, arith, div-mul-le_self}
+use Rattle.std.proofs.Common.{◌≡◌, ℕ, ◌+◌, ◌*◌, ◌-◌, ◌/◌, ◌^◌, ◌<◌, ◌≤◌, inl, inr, Bool, true, false, cond, not, List, [], ◌∷◌, length, Option, Some, None, refl, sym, ap, subst, ◌∙◌, arith, div-mul-le_self}
 use Rattle.std.specs.Prelude.{◌&&◌, ◌||◌, ◌==◌, nat_lt, nat_le, max, fold, filter, if◌then◌else◌}
-use Rattle.std.specs.List.{list_any, list_all}
+use Rattle.std.specs.List.{list_any}
 use Rattle.std.proofs.lemmas.Bool.{cases_lt, lt-ltb, le-leb, le-ltb}
 use Rattle.std.proofs.lemmas.Nat.{pow_pos, shr-shr, le-div, div_below}
 use Rattle.hw_types.specs.declared.answers.Plan.{Plan}
@@ -10,7 +10,7 @@ use Rattle.hw_types.specs.declared.answers.PlanKind.TheVariants.{Propose, Confir
 use Rattle.hw_types.specs.declared.config.Config.{Config}
 use Rattle.hw_types.specs.declared.unit.Obs.{Obs}
 use Rattle.hw_types.specs.declared.unit.Obs.TheVariants as obs
-use Rattle.hw_types.specs.Graph.{Node, is_some_and, slot, observed, latest, cites, past, is_faulty_mark, is_correct}
+use Rattle.hw_types.specs.Graph.{Node, slot, observed, latest, cites, past, is_faulty_mark, is_correct}
 use Rattle.hw_types.specs.Below.{Among}
 use Rattle.hw_types.specs.Journal.{Setting}
 use Rattle.hw_types.specs.Real.{CoreState, setting_of, received_in, settled_in, panorama_in}
@@ -21,9 +21,8 @@ use Rattle.hw_types.specs.Step.{join_from, joining, cited_units, list_of, is_fit
 use Rattle.hw_types.proofs.ClosureLaws.{Among-filter}
 use Rattle.hw_types.proofs.StableLaws.{all_same}
 use Rattle.hw_types.proofs.WordsLaws.{find_node_is}
-use Rattle.hw_dag.specs.declared.numbers.UnitNo.{UnitNo}
 use Rattle.hw_dag.specs.declared.numbers.View.{View}
-use Rattle.hw_dag.specs.Dag.{UnitGraph, count_of, node_at, graph, view_at, obs_of, observations, IsPanorama}
+use Rattle.hw_dag.specs.Dag.{UnitGraph, graph, view_at, obs_of, observations, IsPanorama}
 use Rattle.hw_dag.specs.Admission.{IsGraph}
 use Rattle.hw_dag.proofs.NodeLaws.{among_node}
 use Rattle.hw_dag.proofs.SlotLaws.{slot_of}

@@ -5,20 +5,17 @@ use Rattle.hw_types.specs.declared.answers.Plan.{Plan}
 use Rattle.hw_types.specs.declared.answers.PlanKind.{PlanKind}
 use Rattle.hw_types.specs.declared.answers.PlanKind.TheVariants.{Propose, Confirm, Witness}
 use Rattle.hw_types.specs.declared.config.Config.{Config}
-use Rattle.hw_types.specs.declared.unit.Obs.{Obs}
-use Rattle.hw_types.specs.declared.unit.Digest.{Digest}
 use Rattle.hw_types.specs.declared.unit.Signature.{Signature}
-use Rattle.hw_types.specs.declared.unit.SignedUnit.{SignedUnit}
 use Rattle.hw_types.specs.declared.unit.WireUnit.{WireUnit}
 use Rattle.hw_types.specs.Graph.{Node}
-use Rattle.hw_types.specs.Journal.{Setting, named}
+use Rattle.hw_types.specs.Journal.{named}
 use Rattle.hw_types.specs.Limits.{config_fault}
 use Rattle.hw_types.specs.Real.{CoreState, setting_of, received_in, settled_in}
 use Rattle.hw_types.specs.Rules.{state_rule}
 use Rattle.hw_types.specs.Spelling.{digest_of}
 use Rattle.hw_types.specs.Votes.{fork_of}
 use Rattle.hw_dag.specs.declared.numbers.View.{View}
-use Rattle.hw_dag.specs.Dag.{UnitGraph, graph, observations, IsPanorama}
+use Rattle.hw_dag.specs.Dag.{UnitGraph, graph, IsPanorama}
 use Rattle.hw_dag.specs.Admission.{PreparedUnit, AllKnown, IsFor, IsGraph, IsResolved}
 use Rattle.hw_rules.specs.Judged.{KeepsLocalRules}
 use Rattle.hw_rules.proofs.LocalLaws as local

@@ -3,7 +3,7 @@
 ghost use Rattle.std.specs.Prelude.{◌≡◌, ℕ, ◌+◌, ◌^◌, ◌<◌, ◌≤◌, ◌&&◌, ◌||◌, not, nat_lt, ◌==◌, length, None, IfOk, IfSome, if◌then◌else◌};
 ghost use Rattle.hw_types.specs.Graph.{is_faulty_mark};
 ghost use Rattle.hw_types.specs.Limits.{config_fault};
-ghost use Rattle.hw_dag.specs.Dag.{count_of, obs_of, IsPanorama};
+ghost use Rattle.hw_dag.specs.Dag.{UnitGraph, count_of, obs_of, IsPanorama};
 ghost use Rattle.hw_dag.specs.Lanes.{AreWeights};
 ghost use Rattle.hw_dag.specs.declared.numbers.UnitNo.{UnitNo as Number};
 ghost use Rattle.hw_dag.specs.declared.numbers.View.TheVariants as view;
@@ -133,11 +133,10 @@ fn is_held(dag: &Dag, own: View, part: u64, time: u64, config: &Config) -> bool
     }
 }
 
-/// Whether it is the mark of a fault.
-fn is_faulty(dag: &Dag, own: View) -> bool
-    ensures { result ≡ is_faulty_mark (obs_of dag.now own) }
+/// Whether it is the mark of a fault, in whichever graph.
+fn is_faulty(own: View) -> bool
+    ensures { (dag : UnitGraph) → result ≡ is_faulty_mark (obs_of dag own) }
 {
-    let _ = dag;
     match own {
         View::Faulty => true,
         View::Absent | View::Correct(_) => false,
@@ -172,7 +171,7 @@ fn why(dag: &Dag, config: &Config, observed: &Panorama, me: u32, moment: &Moment
     let own = observed.get(me);
     let leads = me == moment.leader;
     let held = is_held(dag, own, moment.part(), moment.time(leads), config);
-    why_by(is_faulty(dag, own), held, moment.is_early(), leads)
+    why_by(is_faulty(own), held, moment.is_early(), leads)
 }
 
 /// Why nothing is due, where this kind is nothing; else 0.
@@ -224,13 +223,7 @@ fn first_later(dag: &Dag, now: u64, end: u64) -> u64
 
 /// Whether a unit is for nothing, whatever it observes: the own last one is too late, or another leads and isn't seen
 /// in the round.
-fn is_for_nothing(
-    dag: &Dag,
-    config: &Config,
-    observed: &Panorama,
-    me: u32,
-    moment: &Moment,
-) -> bool
+fn is_for_nothing(dag: &Dag, config: &Config, observed: &Panorama, me: u32, moment: &Moment) -> bool
     requires observed { IsPanorama dag.now observed.now }
     requires leader { moment.now.leader < dag.now.validators }
     requires me { me < dag.now.validators }

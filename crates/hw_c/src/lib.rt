@@ -65,8 +65,8 @@ pub use needs::Missing;
 use put::{put, put_both, put_both_with, put_bytes, put_bytes_with, put_done, put_with};
 pub use sent::{Delivered, Sent};
 pub use settings::Settings;
-pub use signed::{Signed, Signer};
 use sha2::{Digest as _, Sha256};
+pub use signed::{Signed, Signer};
 use std::alloc::Global;
 pub use steps::Planned;
 
@@ -312,13 +312,7 @@ pub extern "C" fn hw_for_need(
 /// What the validator has to make at this moment, why it has nothing to make, and until when that stays so while the
 /// journal does.
 #[unsafe(no_mangle)]
-pub extern "C" fn hw_due(
-    alloc: Global,
-    core: &mut Handle,
-    me: u32,
-    now: u64,
-    due: &mut Due,
-) -> u32
+pub extern "C" fn hw_due(alloc: Global, core: &mut Handle, me: u32, now: u64, due: &mut Due) -> u32
     ensures { (r : Result Due Fault) × Reads (λ c. IsDue c me now) core.old.held r core.new.held × Puts r due.old due.new result }
 {
     let outcome = core.read_due(alloc, me, now);

@@ -1,14 +1,12 @@
-use Rattle.std.proofs.Common.{◌≡◌, ℕ, Bool, List, [], length, Option, None, Some, sym, ap, ◌∙◌, arith}
+use Rattle.std.proofs.Common.{◌≡◌, ℕ, [], length, Option, sym, ap, ◌∙◌, arith}
 use Rattle.std.specs.Prelude.{is_some, ◌==◌, if◌then◌else◌}
-use Rattle.std.specs.Option.{option_map}
 use Rattle.hw_types.specs.declared.answers.Plan.{Plan}
 use Rattle.hw_types.specs.declared.config.Config.{Config}
 use Rattle.hw_types.specs.declared.unit.Digest.{Digest}
-use Rattle.hw_types.specs.Graph.{Node}
 use Rattle.hw_types.specs.Rounds.{round_id, leader_of}
 use Rattle.hw_validator.proofs.NodeStepLaws.{small_exponent}
 use Rattle.hw_c.specs.Answers.{flag, digest_bytes}
-use Rattle.hw_c.specs.Due.{kind_of, name_of, proposed_on, proposal_parent, why_in}
+use Rattle.hw_c.specs.Due.{kind_of, name_of, proposal_parent}
 use Rattle.hw_c.specs.Steps.{step_in}
 use Rattle.hw_c.proofs.DueLaws.{due_stays, why_is}
 use Rattle.hw_c.proofs.DuePlans.{plan_fits_if, proposed_is, some_named}
@@ -44,7 +42,7 @@ returns c =
     let kind : c.kind_of-kind.result ≡ kind_of (step_in core c.args.me m.at []) = c.kind_of-kind.ensures ∙ ap kind_of made in
     let round : m.round ≡ round_id m.at core.config.min_exponent = c.requires.moment.round_is ∙ ap (λ (k : Config). round_id m.at k.min_exponent) of.config_is in
     let found : c.in_ok-found.found ≡ name_of (proposal_parent core (step_in core c.args.me m.at [])) =
-        c.in_ok-found.ensures ∙ ap name_of (proposed_is core c.args.dag.now config c.args.observed.now of c.in_ok-plan.plan) ∙ ap (λ (o : Option Plan). name_of (proposal_parent core o)) made in
+    c.in_ok-found.ensures ∙ ap name_of (proposed_is core c.args.dag.now config c.args.observed.now of c.in_ok-plan.plan) ∙ ap (λ (o : Option Plan). name_of (proposal_parent core o)) made in
     record {
       same = λ value t after before. due_stays core c.args.dag.now config c.args.observed.now of c.args.me m.at c.next_moment.result c.next_moment.ensures [] value t after before ∙ sym kind;
       later = c.next_moment.ensures.later;

@@ -1,4 +1,4 @@
-use Rattle.std.proofs.Common.{ℕ, ◌≤◌, inl, inr, sym, subst, ◌∙◌, arith}
+use Rattle.std.proofs.Common.{inl, inr, sym, ◌∙◌, arith}
 use Rattle.hw_c.proofs.DueLaws.{moment_begins, moment_ends, moment_ends_later}
 use Rattle.hw_c.proofs.due.next_moment.Goals as goal
 

@@ -1,9 +1,7 @@
-use Rattle.std.proofs.Common.{◌≡◌, true, false, List, Option, None, sym, ap, subst, ◌∙◌}
-use Rattle.hw_types.specs.declared.unit.Obs.{Obs}
+use Rattle.std.proofs.Common.{List, sym, ap, subst, ◌∙◌}
 use Rattle.hw_types.specs.declared.unit.SignedUnit.{SignedUnit}
 use Rattle.hw_dag.specs.declared.numbers.View.{View}
-use Rattle.hw_dag.specs.Dag.{graph, IsPanorama}
-use Rattle.hw_dag.specs.Admission.{AllKnown}
+use Rattle.hw_dag.specs.Dag.{IsPanorama}
 use Rattle.hw_c.proofs.DuePlans.{is_for, panorama_fits}
 use Rattle.hw_c.proofs.due.parent_of.Goals as goal
 

@@ -1,16 +1,12 @@
-use Rattle.std.proofs.Common.{◌≡◌, ℕ, ◌<◌, List, length, Option, Some, None, sym, ap, subst, ◌∙◌, arith}
-use Rattle.std.specs.Prelude.{unwrap_or, slice_get}
-use Rattle.std.specs.Option.{option_map}
+use Rattle.std.proofs.Common.{◌≡◌, ◌<◌, sym, ap, subst, ◌∙◌}
 use Rattle.hw_types.specs.declared.config.Config.{Config}
 use Rattle.hw_types.specs.declared.unit.Digest.{Digest}
 use Rattle.hw_types.specs.Graph.{Node}
-use Rattle.hw_types.specs.Real.{settled_in}
-use Rattle.hw_core.specs.Order.{order_in}
 use Rattle.hw_dag.specs.declared.numbers.UnitNo.{UnitNo}
 use Rattle.hw_dag.specs.Dag.{SettledUnit, UnitGraph, node_at, unit_at, count_of}
 use Rattle.hw_forks.proofs.DefinedLaws.{vote_at}
-use Rattle.hw_c.specs.Facts.{height_in, IsVoteOf, IsParentOf}
-use Rattle.hw_c.proofs.FactLaws.{known_number, at_its_number, vote_is, parent_is, parent_known, height_is}
+use Rattle.hw_c.specs.Facts.{IsVoteOf}
+use Rattle.hw_c.proofs.FactLaws.{known_number, at_its_number, vote_is}
 use Rattle.hw_c.proofs.facts.vote_of.Goals as goal
 
 pub unit-requires : goal.unit-requires
@@ -53,6 +49,6 @@ returns c = λ x place.
     let there : node_at st.dag n ≡ x = at_its_number core st n x is.order place lt in
     let vote : c.vote.result ≡ (unit_at st.dag n).vote = c.vote.ensures ∙ ap (λ (u : SettledUnit). u.vote) c.unit.ensures ∙ ap (λ (d : UnitGraph). (unit_at d n).vote) same in
     let name : c.digest.result.now ≡ (unit_at st.dag (unit_at st.dag n).vote.0).digest =
-        c.digest.ensures ∙ ap (λ (u : SettledUnit). u.digest) c.unit-2.ensures ∙ ap (λ (d : UnitGraph). (unit_at d c.vote.result.0).digest) same ∙ ap (λ (v : UnitNo). (unit_at st.dag v.0).digest) vote in
+    c.digest.ensures ∙ ap (λ (u : SettledUnit). u.digest) c.unit-2.ensures ∙ ap (λ (d : UnitGraph). (unit_at d c.vote.result.0).digest) same ∙ ap (λ (v : UnitNo). (unit_at st.dag v.0).digest) vote in
     let is_vote = vote_is core st.dag st.config.weights (ap (λ (k : Config). k.weights) is.config) is.settled g aw n lt in
     subst (λ (y : Node). IsVoteOf core y c.digest.result.now) there (subst (λ (d : Digest). IsVoteOf core (node_at st.dag n) d) (sym name) is_vote)
