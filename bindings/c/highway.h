@@ -91,6 +91,16 @@ typedef struct { uint32_t kind, validator; uint8_t digest[32]; } hw_need;
 /* 0 a proposal, 1 a confirmation, 2 a witness; how many bytes its unit has; and what its creator signs. */
 typedef struct { uint32_t kind; uint64_t length; uint8_t digest[32]; } hw_planned;
 
+/* What a validator has to make: 0 a proposal, 1 a confirmation, 2 a witness, 3 nothing. Why nothing: 1 the validator is
+ * faulty, 2 its last unit allows none now, 3 the last block of the instance is reached, 4 the leader's block isn't
+ * there, 5 there is nothing to cite. The round of the moment and its leader; the block that a proposal stands on; and
+ * the moment until which nothing else becomes due while the journal stays as it is. */
+typedef struct {
+  uint32_t kind, why, leader, has_parent;
+  uint64_t round, next;
+  uint8_t parent[32];
+} hw_due_now;
+
 /* 0 they agree on height blocks; 1 they decided left and right at this height, and the culprits weigh so much; 2 two
  * units clash. The text has length bytes. */
 typedef struct { uint32_t kind; uint64_t length, height, culprits, weight; uint8_t left[32], right[32]; } hw_audited;
@@ -204,6 +214,11 @@ uint32_t hw_unmet(hw_core *core, hw_need *list, size_t room, size_t *count);
 uint32_t hw_for_need(hw_core *core, const hw_need *need, size_t place, uint8_t *buf, size_t room, size_t *len);
 
 /* ---- a validator's own units and endorsements */
+
+/* What the validator has to make at this moment, in milliseconds: so no value is needed to ask, and a timer that is set
+ * to due->next replaces polling. Ask again then, and after each delivery. HW_OUT_OF_RANGE where there is no such
+ * validator, or the moment is 2^63 or later. */
+uint32_t hw_due(hw_core *core, uint32_t validator, uint64_t now, hw_due_now *due);
 
 /* The unit that the validator may make at this moment, in milliseconds, as bytes without a signature, with this value
  * where it is a proposal. HW_NONE where there is none, HW_OUT_OF_RANGE where there is no such validator, the moment

@@ -20,6 +20,7 @@ STRUCTS = {
     "hw_core": "Handle",
     "hw_decided": "Decided",
     "hw_delivered": "Delivered",
+    "hw_due_now": "Due",
     "hw_judged": "Judged",
     "hw_need": "Missing",
     "hw_observed": "Observed",

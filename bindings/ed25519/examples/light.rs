@@ -4,7 +4,7 @@
 //!
 //! `cargo run --example light`
 
-use highway::{Certificate, Core, Detached, Judgement, Leaders, Settings};
+use highway::{Certificate, Core, Detached, Judgement, Leaders, Settings, Task};
 use highway_ed25519::{PublicKeys, SecretKey};
 use std::error::Error;
 use std::path::Path;
@@ -39,6 +39,7 @@ impl Network {
 
     /// The validator's unit, if one is due: signed, and delivered with the verdict that its signature has.
     fn step(&mut self, me: usize, now: u64) -> Result<(), Box<dyn Error>> {
+        let Task::Make(_) = self.cores[me].due(me as u32, now)?.task else { return Ok(()) };
         let Some(plan) = self.cores[me].next_unit(me as u32, now, b"a block")? else { return Ok(()) };
         let slot = self.secrets[me].sign(false, plan.digest(), &mut self.signatures);
         let vertex = plan.signed(&slot)?;

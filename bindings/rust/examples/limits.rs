@@ -51,6 +51,7 @@ fn main() -> Result<(), Box<dyn Error>> {
     timed("unmet(1024)", || core.unmet(1024));
     timed("for_need, a unit", || core.for_need(Need::Unit(fork)));
     timed("for_need, evidence", || core.for_need(Need::Evidence(0)));
+    timed("due", || core.due(0, 1 << 40));
     timed("next_unit", || core.next_unit(0, 1 << 40, b""));
     timed("audit", || core.audit(&other));
     let Some(last) = summary.decided.checked_sub(1) else { return Ok(()) };

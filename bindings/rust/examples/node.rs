@@ -3,7 +3,7 @@
 //!
 //! `cargo run --example node`
 
-use highway::{Core, Digest, Leaders, Need, Receipt, Settings, Signature, Signatures};
+use highway::{Core, Digest, Leaders, Need, PlanKind, Receipt, Settings, Signature, Signatures, Task};
 use std::error::Error;
 use std::fs::{File, OpenOptions};
 use std::io::Write;
@@ -107,9 +107,14 @@ impl Host {
     }
 
     /// The own unit, where one is due: signed, on the disk, delivered, and only then handed out to be sent. A crash
-    /// between any two of these leaves a node that has its unit or never sent it.
+    /// between any two of these leaves a node that has its unit or never sent it. A value is made for a proposal alone.
     fn step(&mut self, now: u64) -> Result<Option<Vec<u8>>, Box<dyn Error>> {
-        let value = format!("block of {now}");
+        let due = self.core.due(self.me, now)?;
+        let value = match due.task {
+            Task::Make(PlanKind::Propose) => format!("block of {now}"),
+            Task::Make(_) => String::new(),
+            Task::Nothing(_) => return Ok(None),
+        };
         let Some(plan) = self.core.next_unit(self.me, now, value.as_bytes())? else { return Ok(None) };
         let vertex = plan.signed(&sign(self.me, false, plan.digest()))?;
         self.store.put(&vertex, true)?;

@@ -1,6 +1,6 @@
 //! A node.
 
-use crate::{Certificate, Digest, Error, Need, Plan, Rule, Unit, Verdict, sys};
+use crate::{Certificate, Digest, Due, Error, Need, Plan, Rule, Unit, Verdict, sys};
 use std::fmt;
 use std::iter::FusedIterator;
 use std::ops::Range;
@@ -761,6 +761,36 @@ impl Core {
                 Err(error) => return Err(error),
             }
         }
+    }
+
+    /// What the validator has to make at this moment, in milliseconds, and until when that stays so while nothing is
+    /// delivered. It takes no value, so a host works one out only where it has to propose, and knows its parent then.
+    ///
+    /// # Errors
+    ///
+    /// [`Error::OutOfRange`] where there is no such validator, or the moment is 2^63 or later.
+    ///
+    /// ```
+    /// # use highway::{Core, Error, Leaders, PlanKind, Settings, Task};
+    /// # let leaders = Leaders::Table(vec![0]);
+    /// # let settings = Settings { leaders, min_exponent: 2, ..Settings::of_weights(vec![1]) };
+    /// # let mut core = Core::new(&settings.to_bytes()?)?;
+    /// # let mut now = 0;
+    /// // A host that sleeps until something is due, in place of polling.
+    /// for _ in 0..8 {
+    ///     let due = core.due(0, now)?;
+    ///     if let Task::Make(kind) = due.task {
+    ///         let value = if kind == PlanKind::Propose { format!("above {:?}", due.parent) } else { String::new() };
+    ///         let plan = core.next_unit(0, now, value.as_bytes())?.expect("it is due");
+    ///         core.deliver(&plan.signed(&[7; 32])?, true)?;
+    ///     }
+    ///     now = core.due(0, now)?.next;
+    /// }
+    /// assert_eq!(core.summary()?.settled, 8);
+    /// # Ok::<(), Error>(())
+    /// ```
+    pub fn due(&self, validator: u32, now: u64) -> Result<Due, Error> {
+        Ok(Due::of_sys(&self.handle.due(validator, now)?))
     }
 
     /// The unit that the validator may make at this moment, in milliseconds, with this value for a proposal. The node

@@ -48,7 +48,7 @@ pub use light::{Certificate, Judgement, Verdict};
 pub use need::Need;
 pub use rule::Rule;
 pub use signatures::{Signature, Signatures};
-pub use step::{Plan, PlanKind};
+pub use step::{Due, Plan, PlanKind, Task, Wait};
 pub use unit::{Unit, UnitState, endorsement};
 
 use std::fmt;

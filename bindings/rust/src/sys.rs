@@ -46,6 +46,9 @@ record!(Judged {
     kind: u32, status: u32, number: u32, weight: u64, height: u64, length: u64, total: u64, block: [u8; 32],
     instance: [u8; 32],
 });
+record!(Due {
+    kind: u32, why: u32, leader: u32, has_parent: u32, round: u64, next: u64, parent: [u8; 32],
+});
 record!(UnitFacts {
     creator: u32, exponent: u32, leader: u32, place: u32, is_block: u32, has_parent: u32, has_vote: u32, endorsed: u32,
     seq: u64, time: u64, round: u64, height: u64, length: u64, digest: [u8; 32], parent: [u8; 32], vote: [u8; 32],
@@ -53,7 +56,7 @@ record!(UnitFacts {
 
 #[allow(clippy::too_many_arguments)]
 mod exports {
-    use super::{Answer, Audited, Decided, Delivered, Judged, Missing, Observed, Placed, Planned};
+    use super::{Answer, Audited, Decided, Delivered, Due, Judged, Missing, Observed, Placed, Planned};
     use super::{RawHandle, Sent, Settings, Signed, Summary, UnitFacts};
 
     unsafe extern "C" {
@@ -88,6 +91,7 @@ mod exports {
         pub fn hw_for_need(
             core: *mut RawHandle, need: *const Missing, place: usize, buf: *mut u8, room: usize, len: *mut usize,
         ) -> u32;
+        pub fn hw_due(core: *mut RawHandle, validator: u32, now: u64, due: *mut Due) -> u32;
         pub fn hw_next_unit(
             core: *mut RawHandle, validator: u32, now: u64, value: *const u8, value_len: usize, planned: *mut Planned,
             buf: *mut u8, room: usize,
@@ -289,6 +293,13 @@ impl Handle {
             // SAFETY: as in `journal`.
             said(unsafe { exports::hw_for_need(self.place.get(), need, place, buf.as_mut_ptr(), buf.len(), len) })
         })
+    }
+
+    pub fn due(&self, validator: u32, now: u64) -> Result<Due, Error> {
+        let mut due = Due::default();
+        // SAFETY: as in `journal`.
+        said(unsafe { exports::hw_due(self.place.get(), validator, now, &mut due) })?;
+        Ok(due)
     }
 
     pub fn next_unit(&self, validator: u32, now: u64, value: &[u8]) -> Result<(Planned, Vec<u8>), Error> {

@@ -1,5 +1,5 @@
 -- What a graph has worked out about a settled unit is what the definitions give.
-use Rattle.std.proofs.Common.{◌≡◌, ℕ, ◌<◌, inl, inr, Bool, true, false, List, length, Option, Some, None, refl, sym, ap, subst, ◌∙◌, arith}
+use Rattle.std.proofs.Common.{◌≡◌, ℕ, ◌<◌, Bool, true, false, List, length, Option, Some, None, refl, sym, ap, subst, ◌∙◌, arith}
 use Rattle.std.specs.Prelude.{slice_get, map, unwrap_or, if◌then◌else◌}
 use Rattle.std.specs.Option.{option_map}
 use Rattle.std.proofs.lemmas.Option.{slice_get-get_or, slice_get-map}
@@ -18,7 +18,7 @@ use Rattle.hw_horizon.proofs.NumberLaws.{tall_is}
 use Rattle.hw_core.specs.Settle.{admitted_in}
 use Rattle.hw_core.proofs.CountLaws.{graph_length}
 use Rattle.hw_core.specs.Order.{order_in}
-use Rattle.hw_c.specs.Facts.{parent_in, vote_in, height_in, IsVoteOf, IsParentOf}
+use Rattle.hw_c.specs.Facts.{height_in, IsVoteOf, IsParentOf}
 
 of_some : (x y : Node) → Some x ≡ Some y → x ≡ y
 of_some x y h = cc

@@ -4,3 +4,5 @@ pub mod StepLaws
 pub mod NameLaws
 pub mod DeliveryLaws
 pub mod FactLaws
+pub mod DueLaws
+pub mod DuePlans

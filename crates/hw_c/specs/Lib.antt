@@ -3,6 +3,7 @@ pub mod Audits
 pub mod Buffers
 pub mod Calls
 pub mod Deliveries
+pub mod Due
 pub mod Facts
 pub mod Handles
 pub mod Held

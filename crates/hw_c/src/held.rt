@@ -3,6 +3,7 @@
 ghost use Rattle.std.specs.Prelude.{◌≡◌, None};
 ghost use Rattle.hw_c.specs.Audits.{IsAudit};
 ghost use Rattle.hw_c.specs.Calls.{IsEntry, IsSummary, IsObserved, IsPlaced, IsDecided, AreFaulty, IsUnmet};
+ghost use Rattle.hw_c.specs.Due.{IsDue};
 ghost use Rattle.hw_c.specs.Facts.{IsUnitFacts, IsSpelledFacts};
 ghost use Rattle.hw_c.specs.Handles.{Begins, Ends, Delivers, Reads, ReadsBoth};
 ghost use Rattle.hw_c.specs.Light.{IsCertificate};
@@ -13,6 +14,7 @@ use crate::audits::{self, Audited};
 use crate::calls::{self, Decided, Observed, Placed, Summary};
 use crate::codes::Fault;
 use crate::deliveries::deliver_all;
+use crate::due::{self, Due};
 use crate::facts::{self, UnitFacts};
 use crate::handle::Handle;
 use crate::light;
@@ -177,6 +179,14 @@ impl Handle {
     {
         let node = self.take(alloc)?;
         self.fill_after(steps::next(alloc, &node, me, now, value), node)
+    }
+
+    /// What the validator has to make at this moment.
+    pub(crate) fn read_due(&mut self, alloc: Global, me: u32, now: u64) -> Result<Due, Fault>
+        ensures { Reads (λ c. IsDue c me now) self.old.held result self.new.held }
+    {
+        let node = self.take(alloc)?;
+        self.fill_after(due::due_now(alloc, &node, me, now), node)
     }
 
     /// The certificate of the decided block of that place, as bytes.

@@ -17,6 +17,7 @@ ghost use Rattle.hw_c.specs.declared.calls.Observed.{Observed};
 ghost use Rattle.hw_c.specs.declared.calls.Placed.{Placed};
 ghost use Rattle.hw_c.specs.declared.calls.Summary.{Summary};
 ghost use Rattle.hw_c.specs.declared.codes.Fault.{Fault};
+ghost use Rattle.hw_c.specs.declared.due.Due.{Due};
 ghost use Rattle.hw_c.specs.declared.facts.UnitFacts.{UnitFacts};
 ghost use Rattle.hw_c.specs.declared.light.Judged.{Judged};
 ghost use Rattle.hw_c.specs.declared.put.WithBytes.{WithBytes};
@@ -25,6 +26,7 @@ ghost use Rattle.hw_c.specs.declared.steps.Planned.{Planned};
 ghost use Rattle.hw_c.specs.Audits.{IsAudit};
 ghost use Rattle.hw_c.specs.Buffers.{IsWritten, IsPutWithBytes};
 ghost use Rattle.hw_c.specs.Calls.{IsSigned, IsEntry, IsSummary, IsObserved, IsPlaced, IsDecided, AreFaulty, IsUnmet, IsWithSignature, IsEndorsement};
+ghost use Rattle.hw_c.specs.Due.{IsDue};
 ghost use Rattle.hw_c.specs.Facts.{IsUnitFacts, IsSpelledFacts};
 ghost use Rattle.hw_c.specs.Handles.{Begins, Ends, Delivers, Reads, ReadsBoth};
 ghost use Rattle.hw_c.specs.Light.{IsCertificate, AreCertifiedSigned, IsJudged};
@@ -38,12 +40,14 @@ mod calls;
 mod codes;
 mod content;
 mod deliveries;
+mod due;
 mod facts;
 mod handle;
 mod held;
 mod light;
 mod names;
 mod needs;
+mod own;
 mod put;
 mod sent;
 mod settings;
@@ -53,6 +57,7 @@ mod steps;
 pub use audits::Audited;
 pub use calls::{Decided, Observed, Placed, Summary};
 pub use codes::Answer;
+pub use due::Due;
 pub use facts::UnitFacts;
 pub use handle::Handle;
 pub use light::Judged;
@@ -302,6 +307,16 @@ pub extern "C" fn hw_for_need(
 {
     let outcome = core.read_for_need(alloc, missing, place);
     put_bytes(outcome, buf, len)
+}
+
+/// What the validator has to make at this moment, why it has nothing to make, and until when that stays so while the
+/// journal does.
+#[unsafe(no_mangle)]
+pub extern "C" fn hw_due(alloc: Global, core: &mut Handle, me: u32, now: u64, due: &mut Due) -> u32
+    ensures { (r : Result Due Fault) × Reads (λ c. IsDue c me now) core.old.held r core.new.held × Puts r due.old due.new result }
+{
+    let outcome = core.read_due(alloc, me, now);
+    put(outcome, due)
 }
 
 /// The unit that the validator may make at this moment, as bytes without a signature.

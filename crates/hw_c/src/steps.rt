@@ -26,7 +26,7 @@ pub struct Planned {
 /// The unit that the validator may make at this moment, if any. For the prover: this is a function of its own, so that
 /// the lemma about the journal applies to its call alone.
 #[tactic(auto, using(crate::proofs::StepLaws::step_is))]
-fn planned_unit(
+pub(crate) fn planned_unit(
     alloc: Global,
     core: &Core,
     me: u32,
@@ -41,7 +41,7 @@ fn planned_unit(
     next_unit_of(alloc, core.state(), core.instance(), me, now, value)
 }
 
-fn plan_number(kind: PlanKind) -> u32
+pub(crate) fn plan_number(kind: PlanKind) -> u32
     ensures { result ≡ plan_number kind }
 {
     match kind {

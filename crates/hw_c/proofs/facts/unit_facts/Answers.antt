@@ -6,12 +6,11 @@ use Rattle.hw_c.specs.Answers.{observed_of}
 use Rattle.hw_c.specs.Buffers.{copied}
 use Rattle.hw_types.specs.declared.unit.Digest.{Digest}
 use Rattle.hw_types.specs.declared.unit.SignedUnit.{SignedUnit}
-use Rattle.hw_types.specs.Graph.{Node}
 use Rattle.hw_core.specs.declared.place.Place.{Place}
 use Rattle.hw_core.specs.Order.{order_in}
 use Rattle.hw_core.specs.Readers.{node_in, unit_in}
 use Rattle.hw_c.specs.declared.facts.UnitFacts.{UnitFacts}
-use Rattle.hw_c.specs.Facts.{facts_in, said_of, settled_facts}
+use Rattle.hw_c.specs.Facts.{facts_in, settled_facts}
 use Rattle.hw_c.proofs.facts.unit_facts.Goals as goal
 use Rattle.hw_c.proofs.facts.unit_facts.Goals.{in-Settled, in-Parked, in-Dropped, in-Unknown}
 

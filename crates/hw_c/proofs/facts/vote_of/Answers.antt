@@ -1,16 +1,12 @@
-use Rattle.std.proofs.Common.{◌≡◌, ℕ, ◌<◌, List, length, Option, Some, None, sym, ap, subst, ◌∙◌, arith}
-use Rattle.std.specs.Prelude.{unwrap_or, slice_get}
-use Rattle.std.specs.Option.{option_map}
+use Rattle.std.proofs.Common.{◌≡◌, ◌<◌, sym, ap, subst, ◌∙◌}
 use Rattle.hw_types.specs.declared.config.Config.{Config}
 use Rattle.hw_types.specs.declared.unit.Digest.{Digest}
 use Rattle.hw_types.specs.Graph.{Node}
-use Rattle.hw_types.specs.Real.{settled_in}
-use Rattle.hw_core.specs.Order.{order_in}
 use Rattle.hw_dag.specs.declared.numbers.UnitNo.{UnitNo}
 use Rattle.hw_dag.specs.Dag.{SettledUnit, UnitGraph, node_at, unit_at, count_of}
 use Rattle.hw_forks.proofs.DefinedLaws.{vote_at}
-use Rattle.hw_c.specs.Facts.{height_in, IsVoteOf, IsParentOf}
-use Rattle.hw_c.proofs.FactLaws.{known_number, at_its_number, vote_is, parent_is, parent_known, height_is}
+use Rattle.hw_c.specs.Facts.{IsVoteOf}
+use Rattle.hw_c.proofs.FactLaws.{known_number, at_its_number, vote_is}
 use Rattle.hw_c.proofs.facts.vote_of.Goals as goal
 
 pub unit-requires : goal.unit-requires
