@@ -218,7 +218,11 @@ function legend() {
 
 // ---- events
 
-at("files").addEventListener("change", (event) => take(event.target.files));
+// The input is emptied, so that a file which has changed since can be chosen once more.
+at("files").addEventListener("change", (event) => {
+  take(event.target.files);
+  event.target.value = "";
+});
 at("stop").addEventListener("click", stop);
 for (const kind of ["dragover", "drop"]) document.addEventListener(kind, (event) => event.preventDefault());
 document.addEventListener("drop", (event) => take(event.dataTransfer.files));

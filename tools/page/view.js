@@ -22,7 +22,7 @@ function labelsOf(views) {
     if (!byHeight.has(voteHeight)) byHeight.set(voteHeight, new Set());
     byHeight.get(voteHeight).add(vote);
   }
-  for (const [height, digests] of byHeight) [...digests].sort().forEach((digest, place) => {
+  for (const [height, digests] of byHeight) [...digests].forEach((digest, place) => {
     const letter = digests.size > 1 ? String.fromCharCode(97 + (place % 26)) : "";
     labels.set(digest, { text: `${height}${letter}`, colour: (Number(height) + 3 * place) % COLOURS });
   });

@@ -14,11 +14,11 @@ function faultText(error) {
   throw error;
 }
 
-function certificateFaultText(error) {
-  const { part, fault, at } = error;
+function certificateFaultText({ part, fault, at }, bytes) {
   if (part === "config") return `config ${fault} at ${at}`;
-  if (part === "certificate") return fault === "bad magic" ? fault : `${fault} ${fault === "version" ? "" : "at "}${at}`;
-  return `bad vertex at ${at}: ${fault}`;
+  if (part === "vertex") return `bad vertex at ${at}: ${fault}`;
+  if (fault === "version") return `version ${bytes[4]}`;
+  return fault === "bad magic" ? fault : `${fault} at ${at}`;
 }
 
 function report(core, refused, repeats) {
@@ -128,7 +128,7 @@ class Replay {
       }
       this.text = report(this.core, this.refused, this.repeats);
     } catch (error) {
-      this.fault = `input LOG: ${faultText(error)}`;
+      this.fault = `input ${this.name}: ${faultText(error)}`;
     }
   }
 
@@ -136,7 +136,7 @@ class Replay {
     this.core = library.core(reader.config);
     Object.assign(this, { config: reader.config, version: reader.version, settings: readConfig(reader.config) });
     this.scheme = await schemeOf(given, this.settings.weights.length).catch((error) => {
-      this.keysFault = error instanceof LogError ? `input KEYS: ${error.said}` : String(error.message);
+      this.keysFault = error instanceof LogError ? `input ${given.keysName}: ${error.said}` : String(error.message);
       return null;
     });
   }
@@ -224,7 +224,7 @@ function audit() {
   try {
     said = left.core.audit(right.core);
   } catch (error) {
-    if (error instanceof OtherInstance) return { fault: "input RIGHT: other config" };
+    if (error instanceof OtherInstance) return { fault: `input ${right.name}: other config` };
     throw error;
   }
   const { verdict, text } = said;
@@ -243,7 +243,7 @@ async function checked({ name, bytes }, given) {
   try {
     signatures = certificate.signatures();
   } catch (error) {
-    if (error instanceof BadCertificate) return { ...told, fault: `input FILE: ${certificateFaultText(error)}` };
+    if (error instanceof BadCertificate) return { ...told, fault: `input ${name}: ${certificateFaultText(error, bytes)}` };
     throw error;
   }
   const config = certifiedConfig(bytes), settings = readConfig(config);
@@ -256,7 +256,7 @@ async function checked({ name, bytes }, given) {
     for (const each of signatures) verdicts.push(await isSigned(each, scheme));
     return { ...told, ...judged(certificate.check(verdicts)), what: scheme.what };
   } catch (error) {
-    if (error instanceof LogError) return { ...told, keysFault: `input KEYS: ${error.said}` };
+    if (error instanceof LogError) return { ...told, keysFault: `input ${given.keysName}: ${error.said}` };
     throw error;
   }
 }
@@ -329,14 +329,14 @@ function placeOf(number, round) {
 // ---- the files
 
 async function sorted(files) {
-  const found = { logs: [], certificate: null, keys: null, side: null, strange: [] };
+  const found = { logs: [], certificate: null, keys: null, keysName: null, side: null, strange: [] };
   for (const file of files) {
     const head = new Uint8Array(await file.slice(0, 65).arrayBuffer()), magic = String.fromCharCode(...head.subarray(0, 4));
     const whole = async () => new Uint8Array(await file.arrayBuffer());
     if (magic === "HWLG") found.logs.push(file);
     else if (magic === "HWCT") found.certificate = { name: file.name, bytes: await whole() };
     else if (magic === "HWSG") found.side = await whole();
-    else if (isKeys(head)) found.keys = await whole();
+    else if (isKeys(head)) Object.assign(found, { keys: await whole(), keysName: file.name });
     else found.strange.push(file.name);
   }
   return found;

@@ -9,7 +9,7 @@ import tempfile
 import time
 
 NAMES = ("chromium", "chromium-browser", "google-chrome")
-LONGEST = 120
+LONGEST = 60
 
 
 def found():
@@ -33,7 +33,7 @@ class Browser:
         words = [found(), "--headless", "--no-sandbox", "--disable-gpu", "--remote-debugging-pipe", *words]
         words += [f"--user-data-dir={self.room.name}", "about:blank"]
         how = {"stdin": subprocess.DEVNULL, "stdout": subprocess.DEVNULL, "stderr": subprocess.DEVNULL}
-        # Higher than what the shell can name by one digit are the pipes of some tests, so bash it is.
+        # A descriptor may have more than one digit, which bash takes.
         self.process = subprocess.Popen(["bash", "-c", command, "browser", *words], pass_fds=(asked, said), **how)
         os.close(asked)
         os.close(said)
