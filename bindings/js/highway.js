@@ -91,8 +91,8 @@ export const RULES = [
   "not the leader", "endorsed list shrinks", "endorsed unit isn't below it", "naive", "after the last block",
 ];
 
-// The error of a status that isn't 0, with its details.
-function errorOf(status, answer = { at: 0, digest: "" }) {
+/** The error of a status of highway.h that isn't 0, with its details. */
+export function errorOf(status, answer = { at: 0, digest: "" }) {
   const simple = SIMPLE.get(status);
   if (simple) return new simple[0](simple[1], status);
   const made = (Kind, said, details) => Object.assign(new Kind(said, status), details);

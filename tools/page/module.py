@@ -11,7 +11,7 @@ import tempfile
 
 from bindings.archive import command
 from bindings.unproved_archive import exports, module_of, visible
-from look.build import SMALLEST, BuildError, ended, keeping, ran
+from look.build import BuildError, ended, keeping, ran
 from look.kit import LINE, toolchain
 from look.sources import ROOT, sum_of_file, sum_of_proofs, sum_of_sources
 
@@ -21,15 +21,17 @@ KEPT = f"{ROOT}/out/page"
 LAYOUT = "e-m:e-p:64:64-p10:8:8-p20:8:8-i64:64-i128:128-n32:64-S128-ni:1:10:20"
 TRIPLE = "wasm64-unknown-unknown"
 # What the processor's attributes are called in a module for x86-64.
-OF_PROCESSOR = r' sanitize_address| "(target-cpu|target-features|tune-cpu|frame-pointer|probe-stack|stack-probe-size)"="[^"]*"'
+OF_PROCESSOR = (
+    r' sanitize_address| "(target-cpu|target-features|tune-cpu|frame-pointer|probe-stack|stack-probe-size)"="[^"]*"'
+)
 OF_HEAP = ["hw_take", "hw_give", "hw_heap_limit"]
 FOR_TESTS = ["hw_resize", "hw_wide"]
 STACK = 1 << 20
 
 
-def for_browsers(lines, crate, names):
-    """The lines of a module with its exports visible, for another target."""
-    for line in visible(lines, crate, names):
+def for_browsers(lines):
+    """The lines of a module for another target."""
+    for line in lines:
         if line.startswith("target datalayout"):
             line = f'target datalayout = "{LAYOUT}"\n'
         elif line.startswith("target triple"):
@@ -56,13 +58,14 @@ def linked(kit, objects, names, made):
     return made
 
 
-def webassembly(kit, module, names, work):
-    """Compiles a module of hw_c for WebAssembly, links it with the allocator, and returns the file."""
+def webassembly(kit, module, names, work, is_proved):
+    """Compiles a module of hw_c for WebAssembly, links it with the allocator, and returns the file. A module that was
+    proved as a library shows its exports already."""
     clang = f"{kit}/toolchain/bin/clang"
     words = [clang, "--target=x86_64-unknown-linux-gnu", "-Wno-everything", "-O0", "-S", "-emit-llvm", "-x", "ir"]
     ran([*words, module, "-o", f"{work}/text.ll"])
     with open(f"{work}/text.ll", encoding="utf-8") as it, open(f"{work}/browser.ll", "w", encoding="utf-8") as to:
-        to.writelines(for_browsers(it, CRATE, names))
+        to.writelines(for_browsers(it if is_proved else visible(it, CRATE, names)))
     words = [clang, f"--target={TRIPLE}", "-mbulk-memory", "-msimd128", "-O2", "-Wno-everything", "-c", "-x", "ir"]
     ran([*words, f"{work}/browser.ll", "-o", f"{work}/hw_c.o"])
     objects = [f"{work}/hw_c.o", compiled_heap(kit, work)]
@@ -81,12 +84,14 @@ def proved_module(rtlib, crate, work):
     if lacking:
         raise BuildError(f"these libraries aren't built, so run `rt ci` first: {' '.join(lacking)}")
     words = command(rtlib, crate)
-    words[words.index("--toolchain") + 1] = keeping(rtlib.KIT, work)
+    words[words.index("--toolchain") + 1] = keeping(rtlib.KIT, work, goes_on=True)
     words[words.index("-o") + 1] = f"{work}/libhw_c.a"
     status, said = ended(words, None, cwd=crate.folder, env={**os.environ, "TMPDIR": work})
+    if status or "\nlogic=proved " not in said:
+        raise BuildError(f"{crate.name} wasn't proved, and ended with {status}:\n{said[-2000:]}")
     modules = [f"{work}/saved/{name}" for name in os.listdir(f"{work}/saved")]
     if not modules:
-        raise BuildError(f"no module of {SMALLEST} bytes was handed to clang; it ended with {status}:\n{said[-2000:]}")
+        raise BuildError("no module was handed to clang: this toolchain builds in another way")
     return max(modules, key=os.path.getsize)
 
 
@@ -111,11 +116,15 @@ def made(is_proved, stages):
         with stages.stage(f"{CRATE} is {'proved' if is_proved else 'read without a proof'}"):
             found = proved_module(rtlib, crate, work) if is_proved else module_of(rtlib, crate, work)[0]
         with stages.stage("compiling it for WebAssembly"):
-            shutil.copy(webassembly(rtlib.KIT, found, names_of(crate), work), f"{path}.new")
+            shutil.copy(webassembly(rtlib.KIT, found, names_of(crate), work, is_proved), f"{path}.new")
     os.replace(f"{path}.new", path)
     with contextlib.suppress(OSError):
         for it in os.scandir(KEPT):
-            if it.name.endswith(".wasm") and it.path != path and it.name.split("-")[0] == os.path.basename(path).split("-")[0]:
+            if (
+                it.name.endswith(".wasm")
+                and it.path != path
+                and it.name.split("-")[0] == os.path.basename(path).split("-")[0]
+            ):
                 os.remove(it.path)
     return path, sources
 

@@ -80,7 +80,7 @@ function twins(views) {
 /** A stretch of a log as a graph: lanes, units, citations. `pick` is called with a unit that is clicked. */
 function drawGraph(view, { weights, labels, marks, pick }) {
   const spots = placed(view.units), lanes = lanesOf(spots, weights.length), columns = Math.max(0, ...[...spots.values()].map((it) => it.column + 1));
-  const width = LABEL + columns * COLUMN + 20, root = shape("svg", { class: "hw graph", width, height: lanes.bottom + 6, viewBox: `0 0 ${width} ${lanes.bottom + 6}`, role: "img" });
+  const width = LABEL + columns * COLUMN + 20, root = shape("svg", { class: `hw graph${weights.length > 12 ? " many" : ""}`, width, height: lanes.bottom + 6, viewBox: `0 0 ${width} ${lanes.bottom + 6}`, role: "img" });
   lanes.tops.forEach((top, who) => {
     const height = LANE + (lanes.tracks[who] - 1) * (HIGH + 8), isFaulty = view.faulty.includes(who);
     if (who % 2 === 0) root.append(shape("rect", { x: 0, y: top, width, height, class: "band" }));
@@ -106,9 +106,9 @@ function drawGraph(view, { weights, labels, marks, pick }) {
 /** Validators by rounds: how many units each made. `open` is called with a round that is clicked. */
 function drawHeat(view, { weights, open }) {
   const rounds = view.heat, high = weights.length > 60 ? 6 : weights.length > 24 ? 9 : 14, wide = Math.max(2, Math.min(14, Math.floor(1100 / Math.max(1, rounds.length))));
-  const width = LABEL + rounds.length * wide + 10, height = HEAD + weights.length * high + 8, ways = ["", "", "", ""];
+  const broad = wide < 4 ? wide : wide - 1, width = LABEL + rounds.length * wide + 10, height = HEAD + weights.length * high + 8, ways = ["", "", "", ""];
   rounds.forEach(({ made }, column) => made.forEach((kind, who) => {
-    ways[kind] += `M${LABEL + column * wide} ${HEAD + who * high}h${Math.max(1, wide - 1)}v${high - 1}h${1 - Math.max(2, wide)}z`;
+    ways[kind] += `M${LABEL + column * wide} ${HEAD + who * high}h${broad}v${high - 1}h${-broad}z`;
   }));
   const root = shape("svg", { class: "hw heat", width, height, viewBox: `0 0 ${width} ${height}`, role: "img" });
   weights.forEach((weight, who) => {

@@ -1,5 +1,6 @@
 // Each call, once on its way and once beside it.
 import assert from "node:assert/strict";
+import { readFileSync } from "node:fs";
 import { test } from "node:test";
 import * as highway from "../highway.js";
 import { library, shipped, skip } from "./module.js";
@@ -25,6 +26,19 @@ function run(hw, cores, until) {
   for (let now = 0n; now < until; now++) [0, 1, 2].forEach((me) => step(me, now));
   return sent;
 }
+
+test("each status of the header has an error of its own", () => {
+  const header = readFileSync(new URL("../../c/highway.h", import.meta.url), "utf8");
+  const statuses = [...header.matchAll(/^  (HW_\w+) = (\w+),?/gm)].map(([, name, number]) => [name, Number(number)]);
+  assert.equal(statuses.length, 19);
+  for (const [name, number] of statuses) {
+    if (name === "HW_OK" || name === "HW_FULL") continue;
+    const status = name === "HW_BAD_CONFIG" || name === "HW_LOCAL_RULE" ? number + 1 : number;
+    assert.notEqual(highway.errorOf(status).constructor, highway.HighwayError, name);
+  }
+  assert.deepEqual([0x104, 0x209, 0x313, 0x413, 0x504, 0x514, 0x524].map((it) => highway.errorOf(it).name),
+    ["BadBytes", "BadConfig", "BadPair", "LocalRule", "BadCertificate", "BadCertificate", "BadCertificate"]);
+});
 
 test("validators make blocks final", { skip }, async () => {
   const { hw, cores } = await network(), sent = run(hw, cores, 64n), summary = cores[0].summary();

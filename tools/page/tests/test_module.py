@@ -7,6 +7,7 @@ import subprocess
 import tempfile
 import unittest
 
+from bindings.unproved_archive import visible
 from look.kit import toolchain
 from look.sources import ROOT
 from page.module import HEAP, OF_HEAP, for_browsers, heap_alone
@@ -24,7 +25,7 @@ TEXT = [
 
 class Making(unittest.TestCase):
     def test_another_target(self):
-        lines = list(for_browsers(TEXT, "hw_c", ["hw_check"]))
+        lines = list(for_browsers(visible(TEXT, "hw_c", ["hw_check"])))
         self.assertIn("p10:8:8", lines[0])
         self.assertEqual(lines[1], 'target triple = "wasm64-unknown-unknown"\n')
         self.assertEqual(lines[2], "define noundef i32 @hw_check(ptr %a0) #0 {\n")

@@ -1,7 +1,6 @@
 """The page as a person uses it, in Chromium without a window: files are set into its input, and its texts are held
 against the program's, and against an independent reference's answers."""
 
-import os
 import re
 import shutil
 import subprocess
@@ -10,7 +9,7 @@ import unittest
 from dataclasses import replace
 from pathlib import Path
 
-from lens.log import SignedUnit, read_log, spelled_log, with_digest
+from lens.log import SignedUnit, digest_of, read_log, spelled_log, with_digest
 from look.sources import ROOT
 from page.main import MOST, page, policy
 from page.tests.browser import Browser, found
@@ -20,6 +19,27 @@ DATA = Path(ROOT, "crates/highway/data")
 STORED = Path(ROOT, "bindings/rust/tests/data")
 LOGS = sorted(DATA.glob("*.hwlg"))
 MARKUP = b'</script><script>document.title="x"</script><img src=x onerror=alert(1)>'
+
+
+def openssl(*words, given=None):
+    ran = subprocess.run(["openssl", *map(str, words)], input=given, capture_output=True, check=True)
+    return ran.stdout
+
+
+def with_public_keys(log, room):
+    """The log's units as signed by Ed25519: the log, the side file, and the public keys, each as bytes."""
+    keys = [Path(room, f"{who}.pem") for who in range(len(log.config.weights))]
+    for key in keys:
+        openssl("genpkey", "-algorithm", "ed25519", "-out", key)
+    side, pairs, message = b"HWSG\x01", [], Path(room, "message")
+    for entry in log.entries:
+        unit = entry.vertex.unit
+        message.write_bytes(b"highway unit\0" + unit.digest)
+        signature = openssl("pkeyutl", "-sign", "-inkey", keys[unit.creator], "-rawin", "-in", message)
+        side += len(signature).to_bytes(2) + signature
+        pairs.append((1, SignedUnit(unit, digest_of(signature))))
+    public = [openssl("pkey", "-in", key, "-pubout", "-outform", "DER")[-32:].hex() + "\n" for key in keys]
+    return spelled_log(log.config, pairs), side, "".join(public).encode()
 
 
 class Text(unittest.TestCase):
@@ -169,6 +189,20 @@ class InBrowser(unittest.TestCase):
         self.dropped("replay", DATA / "four.hwlg")
         self.assertIn("The signatures weren't checked", self.shown())
 
+    @unittest.skipUnless(shutil.which("openssl"), "there is no openssl here")
+    def test_public_keys_judge_with_a_side_file(self):
+        log, side, keys = with_public_keys(read_log(DATA / "four.hwlg"), self.room.name)
+        files = [self.write("real.hwlg", log), self.write("real.hwsg", side), self.write("public.keys", keys)]
+        self.dropped("replay", *files)
+        told = "Each verdict is what public keys, and the signatures of the side file say: 4 of 4 entries with good"
+        self.assertIn(told, self.shown())
+        self.write("public.keys", keys[65:] + keys[:65])
+        self.dropped("replay", *files)
+        self.assertIn("4 of 4 verdicts aren't what public keys", self.shown())
+        self.write("real.hwsg", side[:-1])
+        self.dropped("replay", *files)
+        self.assertIn(f"torn at {len(side) - 66}: no signature was checked", self.shown())
+
     def test_markup_stays_text(self):
         log = read_log(DATA / "four.hwlg")
         block = next(it.vertex for it in log.entries if it.vertex.unit.is_block)
@@ -176,7 +210,9 @@ class InBrowser(unittest.TestCase):
         name = "<img src=x onerror=alert(1)>.hwlg"
         self.dropped("replay", self.write(name, spelled_log(log.config, [(1, marked)])), self.write("<b>", b"none"))
         self.browser.wait("document.querySelector('[data-unit]') !== null")
-        self.browser.value("document.querySelector('[data-unit]').dispatchEvent(new MouseEvent('click', {bubbles: true}))")
+        self.browser.value(
+            "document.querySelector('[data-unit]').dispatchEvent(new MouseEvent('click', {bubbles: true}))"
+        )
         shown = self.shown()
         for text in (name, MARKUP.decode(), "<b> is no log"):
             self.assertIn(text, shown)
