@@ -124,7 +124,7 @@ function signaturesLine({ signatures, keysFault, entries }) {
 
 function auditCard(audit, logs) {
   const card = element("section", "card"), { verdict } = audit;
-  if (audit.fault) return element("section", "card", line("alarm big", "The two logs are of different configurations, so they say nothing of each other."), printed("audit", audit.fault + "\n"));
+  if (audit.fault) return element("section", "card", line("alarm big", "The two logs can't be held against each other."), printed("audit", audit.fault + "\n"));
   if (verdict.kind === "agree") card.append(line("good big", `No conflict: the two logs agree on ${counted(verdict.common, "final block")}.`));
   if (verdict.kind === "clash") card.append(line("alarm big", "Two different units have one digest."));
   if (verdict.kind === "conflict") card.append(...conflict(audit, logs));
@@ -182,6 +182,7 @@ function unitTable(unit) {
 function pick(unit) {
   at("unit").replaceChildren(element("h2", "", `${unit.value === null ? "Unit" : "Block"} ${unit.digest.slice(0, 8)}`), unitTable(unit));
   at("unit").hidden = false;
+  at("unit").scrollIntoView({ block: "nearest" });
 }
 
 // ---- pictures

@@ -217,17 +217,18 @@ function evidenceOf(config, culprits) {
   return joinBytes(encoder.encode("HWLG"), [1], u32(config.length), config, ...entries);
 }
 
+// Why there is no audit, in the program's words: the left log's fault, another configuration, the right log's fault.
+function noAudit([left, right]) {
+  if (left.fault) return left.fault;
+  if (right.config && hex(right.config) !== hex(left.config)) return `input ${right.name}: other config`;
+  return right.fault;
+}
+
 function audit() {
-  const [left, right] = logs;
-  if (logs.length < 2 || left.fault || right.fault) return null;
-  let said;
-  try {
-    said = left.core.audit(right.core);
-  } catch (error) {
-    if (error instanceof OtherInstance) return { fault: `input ${right.name}: other config` };
-    throw error;
-  }
-  const { verdict, text } = said;
+  if (logs.length < 2) return null;
+  const [left, right] = logs, fault = noAudit(logs);
+  if (fault) return { fault };
+  const { verdict, text } = left.core.audit(right.core);
   if (verdict.kind !== "conflict") return { verdict, text };
   const culprits = [...text.matchAll(/^culprit (\d+) (\w+) (\w+)$/gm)].map(([, who, one, other]) => ({
     validator: Number(who), weight: left.settings.weights[who], units: [one, other].map(accused),

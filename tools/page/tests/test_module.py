@@ -1,5 +1,6 @@
 """Tests of the module's making, and by node those of bindings/js."""
 
+import json
 import os
 import re
 import shutil
@@ -38,6 +39,12 @@ class Making(unittest.TestCase):
         with open(f"{ROOT}/bindings/js/highway.js", encoding="utf-8") as it:
             text = it.read()
         self.assertEqual(declared - set(re.findall(r"hw_\w+", text)), set())
+
+    def test_the_package_has_the_version(self):
+        with open(f"{ROOT}/VERSION", encoding="utf-8") as it:
+            version = it.read().strip()
+        with open(f"{ROOT}/bindings/js/package.json", encoding="utf-8") as it:
+            self.assertEqual(json.load(it)["version"], version)
 
     def test_the_heap_exports_what_is_named(self):
         with open(HEAP, encoding="utf-8") as it:

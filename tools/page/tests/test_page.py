@@ -107,6 +107,45 @@ class InBrowser(unittest.TestCase):
             second = self.write(f"2-{path.name}", spelled_log(log.config, pairs, 2))
             self.assertEqual(self.dropped("replay", second), [self.said("replay", second)], path.name)
 
+    def test_logs_in_another_order_are_replayed_as_the_program_does(self):
+        path = self.write("ordered.hwlg", b"")
+        for source in LOGS:
+            log = read_log(source)
+            pairs = [(entry.verdict, entry.vertex) for entry in log.entries]
+            unsigned = [(0, vertex) for _, vertex in pairs[:1]] + pairs[1:]
+            for changed in ([], pairs[::-1], pairs[:1] + pairs, pairs[1:], unsigned):
+                for version in (1, 2):
+                    path.write_bytes(spelled_log(log.config, changed, version))
+                    self.assertEqual(self.dropped("replay", path), [self.said("replay", path)], source.name)
+
+    def test_random_pairs_are_audited_as_the_program_does(self):
+        left, right, kinds = self.write("left.hwlg", b""), self.write("right.hwlg", b""), set()
+        for data, _ in self.stored("logs.bin", "answers.txt", 4):
+            left.write_bytes(data)
+            log = read_log(left)
+            pairs = [(entry.verdict, entry.vertex) for entry in log.entries]
+            for part, path in ((0, left), (1, right)):
+                kept = [pair for place, pair in enumerate(pairs) if place < 4 or place % 4 != part]
+                path.write_bytes(spelled_log(log.config, kept, 1 + part))
+            told = self.said("audit", left, right)
+            self.assertEqual(self.dropped("audit", left, right), [told])
+            kinds.add(told.split(" ")[0])
+        self.assertIn("agree", kinds)
+
+    def test_logs_that_have_no_audit_are_answered_as_the_program_does(self):
+        whole, other = (DATA / "signed.hwlg").read_bytes(), (DATA / "left.hwlg").read_bytes()
+        left, right = self.write("left.hwlg", b""), self.write("right.hwlg", b"")
+        for pair in (
+            (whole[:-1], whole),
+            (whole, whole[:-1]),
+            (whole, other[:-1]),
+            (whole[:-1], other),
+            (whole, b"HWLG\1"),
+        ):
+            left.write_bytes(pair[0])
+            right.write_bytes(pair[1])
+            self.assertEqual(self.dropped("audit", left, right), [self.said("audit", left, right)])
+
     def test_each_pair_is_audited_as_the_program_does(self):
         for left in LOGS:
             for right in LOGS:
