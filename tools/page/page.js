@@ -42,6 +42,7 @@ function hear(data) {
   if (data.kind === "progress") progress(data);
   if (data.kind === "shown") show(data);
   if (data.kind === "view") see(data.view);
+  if (data.kind === "lost") at(`lost${data.number}`).textContent = `there is no unit ${data.text}`;
   if (data.kind === "failed") fail(data.text);
 }
 
@@ -192,6 +193,8 @@ function see(view) {
   const shown = views.filter(Boolean), labels = labelsOf(shown), marks = twins(shown);
   at("pictures").replaceChildren(...shown.map((each) => picture(each, labels, marks)));
   document.body.dataset.pictures = shown.length;
+  const found = view.units.find((unit) => unit.digest === view.found);
+  if (found) pick(found);
 }
 
 function picture(view, labels, marks) {
@@ -203,7 +206,7 @@ function picture(view, labels, marks) {
     made.addEventListener("click", () => ask({ from }));
     return made;
   };
-  const walk = element("p", "", button("earlier", view.from - view.most / 2, view.from === 0), button("later", view.from + view.most / 2, last >= view.count),
+  const walk = element("p", "", search(view.number, ask), button("earlier", view.from - view.most / 2, view.from === 0), button("later", view.from + view.most / 2, last >= view.count),
     ` units ${view.from + 1} to ${last} of ${view.count} by time, not to scale. A number is the height of the block that a unit votes for.`);
   const open = (round) => ask({ round });
   const heat = weights.length > FEW_LANES || view.count > view.most;
@@ -211,6 +214,15 @@ function picture(view, labels, marks) {
   if (heat) parts.push(line("quiet", "Each cell is a validator in a round. Click a round to open it below."), legend(), element("div", "scroll", drawHeat(view, { weights, open })));
   parts.push(walk, element("div", "scroll", drawGraph(view, { weights, labels, marks, pick })));
   return element("section", "card", ...parts);
+}
+
+// A field for a digest or its beginning, a validator's number, or the height of a final block.
+function search(number, ask) {
+  const field = element("input", "search"), lost = element("span", "alarm");
+  Object.assign(field, { type: "search", placeholder: "digest, 1#20, height 7", ariaLabel: "find a unit" });
+  lost.id = `lost${number}`;
+  field.addEventListener("change", () => field.value && ask({ kind: "find", text: field.value }));
+  return element("span", "", field, " ", lost, " ");
 }
 
 function legend() {

@@ -327,6 +327,23 @@ function placeOf(number, round) {
   return units.findIndex(({ time }) => time >> BigInt(settings.minExponent) >= round);
 }
 
+// The place by time of the unit that is asked for: a digest or its beginning, `1#20` for validator 1's number 20, or
+// `height 7` for a final block. None is -1.
+function find(number, text) {
+  const { core, units } = logs[number], lane = /^(\d+)#(\d+)$/.exec(text), height = /^height (\d+)$/.exec(text);
+  if (lane) return units.findIndex(({ creator, seq }) => creator === Number(lane[1]) && seq === BigInt(lane[2]));
+  const digest = height ? core.decision(Number(height[1]))?.block : text;
+  if (!/^[0-9a-f]{4,64}$/.test(digest ?? "")) return -1;
+  return units.findIndex((unit) => (unit.digest ??= core.readUnit(unit.vertex).digest).startsWith(digest));
+}
+
+function answerFind({ number, text }) {
+  const place = find(number, text.trim()), unit = logs[number].units[place];
+  if (!unit) return { kind: "lost", number, text };
+  const view = viewOf(number, place - SLICE / 2);
+  return { kind: "view", view: { ...view, found: logs[number].core.readUnit(unit.vertex).digest } };
+}
+
 // ---- the files
 
 async function sorted(files) {
@@ -373,6 +390,7 @@ onmessage = async ({ data }) => {
     if (data.kind === "begin") postMessage({ kind: "ready", version: library.version() });
     if (data.kind === "work") await work(data.files);
     if (data.kind === "stretch") postMessage({ kind: "view", view: viewOf(data.number, data.from ?? placeOf(data.number, data.round)) });
+    if (data.kind === "find") postMessage(answerFind(data));
   } catch (error) {
     postMessage({ kind: "failed", text: `${error.name}: ${error.message}` });
   }

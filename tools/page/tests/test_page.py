@@ -258,6 +258,25 @@ class InBrowser(unittest.TestCase):
         self.assertEqual(self.browser.value("document.querySelectorAll('img, #said b, #said script').length"), 0)
         self.assertEqual(self.browser.value("document.title"), "Highway: audit in a browser")
 
+    def test_a_unit_is_found(self):
+        path = self.write("found.hwlg", self.stored("logs.bin", "answers.txt", 1)[0][0])
+        [text] = self.dropped("replay", path)
+        block = re.search(r"final 1 (\w+)", text)[1]
+        self.browser.wait("document.querySelector('input.search') !== null")
+        for asked in (block, block[:6], "height 1"):
+            self.browser.value("document.getElementById('unit').hidden = true")
+            self.find(asked)
+            self.browser.wait("!document.getElementById('unit').hidden")
+            self.assertIn(block, self.browser.value("document.getElementById('unit').innerText"))
+        self.find("0#0")
+        self.browser.wait("document.getElementById('unit').innerText.includes('validator 0, number 0')")
+        self.find("9#9")
+        self.browser.wait("document.body.innerText.includes('there is no unit 9#9')")
+
+    def find(self, text):
+        field = "document.querySelector('input.search')"
+        self.browser.value(f"{field}.value = '{text}'; {field}.dispatchEvent(new Event('change'))")
+
     def test_a_long_log_goes_by_pieces_and_is_stopped(self):
         data = (DATA / "both.hwlg").read_bytes()
         log = read_log(DATA / "both.hwlg")
