@@ -35,11 +35,12 @@ archive() {
 rust() { (cd bindings/rust && cargo --offline test --quiet); }
 # The packaged crate of Ed25519. Where it is CI it is installed, else its steps are left out.
 packaged() {
-    compgen -G "/usr/share/cargo/registry/ring-*" >/dev/null && return 0
+    local crate="${PACKAGED_CRATES:-/usr/share/cargo/registry}/ring-*"
+    compgen -G "$crate" >/dev/null && return 0
     if [ -n "${CI:-}" ] && command -v apt-get >/dev/null; then
         echo "bindings: installs librust-ring-dev"
         { apt-get update -qq && apt-get install -y -qq librust-ring-dev; } >/dev/null 2>&1
-        compgen -G "/usr/share/cargo/registry/ring-*" >/dev/null && return 0
+        compgen -G "$crate" >/dev/null && return 0
     fi
     echo "bindings: skipped, since there is no librust-ring-dev here: Ed25519"
     return 1

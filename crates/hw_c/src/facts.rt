@@ -161,7 +161,12 @@ pub fn value_of(alloc: Global, unit: &WireUnit) -> Result<Bytes, OutOfMemory>
 fn observed_list(alloc: Global, panorama: &[Obs]) -> Result<Vec<Observed>, OutOfMemory>
     ensures { IfOk result (λ list. list.items ≡ map observed_of panorama.now) }
 {
-    Ok(panorama.iter().map(|seen| observed_of(*seen)).collect(alloc)?)
+    Ok(
+        panorama
+            .iter()
+            .map(|seen| observed_of(*seen))
+            .collect(alloc)?,
+    )
 }
 
 /// What the journal's unit of this digest is, with its value, and what it observes of each validator. `Nothing` where

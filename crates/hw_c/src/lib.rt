@@ -60,8 +60,8 @@ pub use needs::Missing;
 use put::{put, put_both, put_both_with, put_bytes, put_bytes_with, put_done, put_with};
 pub use sent::{Delivered, Sent};
 pub use settings::Settings;
-pub use signed::{Signed, Signer};
 use sha2::{Digest as _, Sha256};
+pub use signed::{Signed, Signer};
 use std::alloc::Global;
 pub use steps::Planned;
 

@@ -147,7 +147,12 @@ fn height_in(core: &Core, block: &Digest) -> u64
 }
 
 /// A yes, with the height of the block and its value.
-fn accepted(alloc: Global, judged: Judged, core: &Core, block: &Digest) -> Result<WithBytes<Judged>, OutOfMemory>
+fn accepted(
+    alloc: Global,
+    judged: Judged,
+    core: &Core,
+    block: &Digest,
+) -> Result<WithBytes<Judged>, OutOfMemory>
     ensures { IfOk result (λ both. (both.value ≡ accepted judged core.now block.now) × (both.bytes ≡ value_in core.now block.now)) }
 {
     let bytes = value_in(alloc, core, block)?;
@@ -170,11 +175,17 @@ fn judged_of(
     let instance = instance_of(alloc, &certificate.config)?;
     match checked {
         Checked::No(CheckFault::Config(limit)) => Ok(WithBytes {
-            value: refused(unjudged(certificate, instance, 0), CheckFault::Config(*limit)),
+            value: refused(
+                unjudged(certificate, instance, 0),
+                CheckFault::Config(*limit),
+            ),
             bytes: Bytes::new(alloc),
         }),
         Checked::No(fault) => Ok(WithBytes {
-            value: refused(unjudged(certificate, instance, certificate.config.total()), *fault),
+            value: refused(
+                unjudged(certificate, instance, certificate.config.total()),
+                *fault,
+            ),
             bytes: Bytes::new(alloc),
         }),
         Checked::Yes(core) => {

@@ -9,7 +9,7 @@ import unittest
 from unittest import mock
 
 from measure import commands
-from lens.log import is_signed, read_log
+from lens.log import StandIn, is_signed, read_log
 from measure.replay import made
 
 FEW = "rounds --validators 3 --rounds 2"
@@ -110,7 +110,7 @@ class Measured(unittest.TestCase):
         frames = list(commands.signed_frames(log))
         self.assertEqual([frame[4:5] for frame in frames], [b"\1"] + [b"\2"] * len(log.entries) + [b"\5"])
         self.assertTrue(all(len(frame) == 4 + int.from_bytes(frame[:4]) for frame in frames))
-        self.assertFalse(is_signed(log.entries[0].vertex, commands.keys_of(3)))
+        self.assertFalse(is_signed(log.entries[0].vertex, StandIn(commands.keys_of(3))))
 
     def test_a_node_that_does_not_listen(self):
         status, _, err = said_by([*self.words(self.program("dead", "exit 5")), "serve"])

@@ -37,5 +37,5 @@ returns c = λ x place.
     let lt : n < count_of st.dag = known_number core st.dag n is.settled g c.requires in
     let there : node_at st.dag n ≡ x = at_its_number core st n x is.order place lt in
     let height : c.unwrap_or.result ≡ unwrap_or (unit_at st.dag n).height 0 =
-        c.unwrap_or.ensures ∙ ap (λ (o : Option ℕ). unwrap_or o 0) (c.height.ensures ∙ ap (λ (u : SettledUnit). u.height) c.unit.ensures ∙ ap (λ (d : UnitGraph). (unit_at d n).height) same) in
+    c.unwrap_or.ensures ∙ ap (λ (o : Option ℕ). unwrap_or o 0) (c.height.ensures ∙ ap (λ (u : SettledUnit). u.height) c.unit.ensures ∙ ap (λ (d : UnitGraph). (unit_at d n).height) same) in
     height ∙ height_is core st.dag st.config.weights (ap (λ (k : Config). k.weights) is.config) is.settled g aw n lt ∙ ap (λ (y : Node). height_in core y) there

@@ -51,10 +51,10 @@ returns-in-Some c = λ x place.
     let there : node_at st.dag n ≡ x = at_its_number core st n x is.order place lt in
     let parent : (unit_at st.dag n).parent ≡ Some c.in-Some.parent = sym (c.parent.ensures ∙ ap (λ (u : SettledUnit). u.parent) c.unit.ensures ∙ ap (λ (d : UnitGraph). (unit_at d n).parent) same) ∙ c.in-Some.is in
     let name : c.digest.result.now ≡ (unit_at st.dag c.in-Some.parent.0).digest =
-        c.digest.ensures ∙ ap (λ (u : SettledUnit). u.digest) c.unit-in-Some.ensures ∙ ap (λ (d : UnitGraph). (unit_at d c.in-Some.parent.0).digest) same in
+    c.digest.ensures ∙ ap (λ (u : SettledUnit). u.digest) c.unit-in-Some.ensures ∙ ap (λ (d : UnitGraph). (unit_at d c.in-Some.parent.0).digest) same in
     let is_parent = parent_is core st.dag st.config.weights (ap (λ (k : Config). k.weights) is.config) is.settled g aw n lt in
     let told : option_map (λ (p : UnitNo). (unit_at st.dag p.0).digest) (unit_at st.dag n).parent ≡ Some c.digest.result.now =
-        ap (λ (o : Option UnitNo). option_map (λ (p : UnitNo). (unit_at st.dag p.0).digest) o) parent ∙ ap Some (sym name) in
+    ap (λ (o : Option UnitNo). option_map (λ (p : UnitNo). (unit_at st.dag p.0).digest) o) parent ∙ ap Some (sym name) in
     subst (λ (y : Node). IsParentOf core y (Some c.digest.result.now)) there (sym told ∙ is_parent)
 
 pub returns-in-None : goal.returns-in-None
@@ -71,5 +71,5 @@ returns-in-None c = λ x place.
     let parent : (unit_at st.dag n).parent ≡ None = sym (c.parent.ensures ∙ ap (λ (u : SettledUnit). u.parent) c.unit.ensures ∙ ap (λ (d : UnitGraph). (unit_at d n).parent) same) ∙ c.in-None.is in
     let is_parent = parent_is core st.dag st.config.weights (ap (λ (k : Config). k.weights) is.config) is.settled g aw n lt in
     let told : option_map (λ (p : UnitNo). (unit_at st.dag p.0).digest) (unit_at st.dag n).parent ≡ None =
-        ap (λ (o : Option UnitNo). option_map (λ (p : UnitNo). (unit_at st.dag p.0).digest) o) parent in
+    ap (λ (o : Option UnitNo). option_map (λ (p : UnitNo). (unit_at st.dag p.0).digest) o) parent in
     subst (λ (y : Node). IsParentOf core y None) there (sym told ∙ is_parent)

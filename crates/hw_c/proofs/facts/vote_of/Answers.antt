@@ -53,6 +53,6 @@ returns c = λ x place.
     let there : node_at st.dag n ≡ x = at_its_number core st n x is.order place lt in
     let vote : c.vote.result ≡ (unit_at st.dag n).vote = c.vote.ensures ∙ ap (λ (u : SettledUnit). u.vote) c.unit.ensures ∙ ap (λ (d : UnitGraph). (unit_at d n).vote) same in
     let name : c.digest.result.now ≡ (unit_at st.dag (unit_at st.dag n).vote.0).digest =
-        c.digest.ensures ∙ ap (λ (u : SettledUnit). u.digest) c.unit-2.ensures ∙ ap (λ (d : UnitGraph). (unit_at d c.vote.result.0).digest) same ∙ ap (λ (v : UnitNo). (unit_at st.dag v.0).digest) vote in
+    c.digest.ensures ∙ ap (λ (u : SettledUnit). u.digest) c.unit-2.ensures ∙ ap (λ (d : UnitGraph). (unit_at d c.vote.result.0).digest) same ∙ ap (λ (v : UnitNo). (unit_at st.dag v.0).digest) vote in
     let is_vote = vote_is core st.dag st.config.weights (ap (λ (k : Config). k.weights) is.config) is.settled g aw n lt in
     subst (λ (y : Node). IsVoteOf core y c.digest.result.now) there (subst (λ (d : Digest). IsVoteOf core (node_at st.dag n) d) (sym name) is_vote)
