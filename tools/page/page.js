@@ -49,6 +49,9 @@ function hear(data) {
 function fail(text) {
   const isOld = /memory64|i64|index type|CompileError|LinkError/i.test(text);
   at("said").replaceChildren(line("alarm", text), line("", isOld ? "This browser has no WebAssembly with 64-bit memory: Chrome 133 and Firefox 134 have it." : ""));
+  // What failed in the middle isn't used again.
+  worker?.terminate();
+  worker = null;
   finish("failed");
 }
 
