@@ -9,7 +9,7 @@ import unittest
 from dataclasses import replace
 from pathlib import Path
 
-from lens.log import SignedUnit, digest_of, read_log, spelled_log, with_digest
+from lens.log import SignedUnit, digest_of, is_signed, read_keys, read_log, spelled_log, with_digest
 from look.sources import ROOT
 from page.main import MOST, page, policy
 from page.tests.browser import Browser, found
@@ -220,6 +220,9 @@ class InBrowser(unittest.TestCase):
         digests = re.findall(r"culprit 1 (\w+) (\w+)", self.browser.printed("audit")[0])[0]
         pair = log.entries[0].vertex
         self.assertEqual({pair.left.unit.digest.hex(), pair.right.unit.digest.hex()}, set(digests))
+        keys = read_keys(DATA / "three.keys")
+        self.assertTrue(is_signed(pair, keys))
+        self.assertIn("\nfaulty 1\n", self.said("replay", kept))
 
     def test_false_verdicts_are_listed(self):
         self.dropped("replay", DATA / "four.hwlg", DATA / "three.keys")
