@@ -215,6 +215,8 @@ const SHORT = 1024, NO_SLOT = 0xffffffff;
  *   state: "unknown" | "settled" | "parked" | "dropped", vote: string | null, parent: string | null,
  *   height: number | null}} Unit
  * @typedef {{kind: "propose" | "confirm" | "witness", digest: string, unit: Uint8Array}} Plan
+ * @typedef {{make: "propose" | "confirm" | "witness" | null, wait: string | null, leader: number, round: bigint,
+ *   parent: string | null, next: bigint}} Due What is due or else why nothing is, and until when that stays so.
  * @typedef {{kind: "agree", common: number} | {kind: "clash"} | {kind: "conflict", height: number, left: string,
  *   right: string, culprits: number, weight: bigint}} Verdict
  * @typedef {{kind: "yes", block: string, instance: string, total: bigint, height: number, value: Uint8Array} |
@@ -609,6 +611,20 @@ export class Core {
     });
     for (let vertex = this.orNull(next); vertex; vertex = this.orNull(next)) found.push(vertex);
     return found;
+  }
+
+  /**
+   * What the validator has to make at this moment, in milliseconds, and until when that stays so while nothing is
+   * delivered. Throws OutOfRange.
+   * @param {number} validator @param {bigint} now @returns {Due}
+   */
+  due(validator, now) {
+    const tasks = ["propose", "confirm", "witness", null];
+    const waits = [null, "it is faulty", "its last unit", "the end is reached", "the leader's block", "anything to cite"];
+    return this.call("hw_due", 64, () => [validator, BigInt(now)], (room, at) => ({
+      make: tasks[room.u32(at)], wait: waits[room.u32(at + 4)], leader: room.u32(at + 8), round: room.u64(at + 16),
+      parent: room.u32(at + 12) === 1 ? room.digest(at + 32) : null, next: room.u64(at + 24),
+    }));
   }
 
   /**

@@ -59,6 +59,16 @@ test("validators make blocks final", { skip }, async () => {
   assert.equal(hw.version(), 0x000200);
 });
 
+test("what is due is what a plan is made for", { skip }, async () => {
+  const { cores: [core] } = await network();
+  for (let now = 0n; now < 32n; now++) for (const me of [0, 1, 2]) {
+    const due = core.due(me, now), plan = core.nextUnit(me, now, value);
+    assert.equal(due.make, plan ? plan.kind : null);
+    assert.deepEqual([due.wait === null, due.next > now, due.parent], [plan !== null, true, null]);
+  }
+  assert.throws(() => core.due(3, 0n), highway.OutOfRange);
+});
+
 test("a unit is told", { skip }, async () => {
   const { hw, cores } = await network(), sent = run(hw, cores, 32n), { block } = cores[0].decision(0);
   const unit = cores[0].unit(block);
