@@ -55,7 +55,11 @@ pub fn make(secret: &Path) -> Result<PublicText, Error> {
     let signing = SecretKey::make().map_err(|error| failed(&error))?;
     let link = zmq::CurveKeyPair::new().map_err(|error| failed(&error))?;
     let public = SecretKey::read(&signing).map_err(|error| failed(&error))?.public();
-    let text = SecretText { signing: hex::digits(&signing), link: hex::digits(&link.secret_key), link_public: hex::digits(&link.public_key) };
+    let text = SecretText {
+        signing: hex::digits(&signing),
+        link: hex::digits(&link.secret_key),
+        link_public: hex::digits(&link.public_key),
+    };
     let told = PublicText { key: hex::digits(&public), link: hex::digits(&link.public_key) };
     write_new(secret, 0o600, &toml::to_string(&text).map_err(|error| failed(&error))?)?;
     write_new(&public_path(secret), 0o644, &toml::to_string(&told).map_err(|error| failed(&error))?)?;

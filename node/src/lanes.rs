@@ -39,8 +39,7 @@ impl Lanes {
     /// The places of units that a node with those latest units lacks, in the order of the journal: at most so many, and
     /// whether there are more.
     pub fn lacking(&self, asked: &[Latest], most: usize) -> (Vec<u64>, bool) {
-        let mut places: Vec<u64> =
-            self.0.iter().zip(asked).flat_map(|(lane, latest)| lane.behind(*latest)).collect();
+        let mut places: Vec<u64> = self.0.iter().zip(asked).flat_map(|(lane, latest)| lane.behind(*latest)).collect();
         places.sort_unstable();
         let has_more = places.len() > most;
         places.truncate(most);

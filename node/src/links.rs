@@ -107,9 +107,8 @@ impl Links {
         let mut routes = routes(network, settings);
         let own = routes.remove(me as usize);
         let [vertices, requests] = settings.listen.clone().unwrap_or([own.vertices, own.requests]);
-        let listen = |kind, address: &str| {
-            listening(&context, kind, keys, address).map_err(|error| Error::link(address, error))
-        };
+        let listen =
+            |kind, address: &str| listening(&context, kind, keys, address).map_err(|error| Error::link(address, error));
         let (vertices, requests) = (listen(zmq::PUB, &vertices)?, listen(zmq::ROUTER, &requests)?);
         let peers = routes.into_iter().map(|route| Peer::dial(&context, keys, network, route));
         let peers = peers.collect::<Result<_, _>>()?;

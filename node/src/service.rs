@@ -151,6 +151,7 @@ impl Service {
         let (senders, parcels): (Vec<u32>, Vec<Parcel>) = came.into_iter().unzip();
         let wanted = self.peers.wanted();
         let (outcomes, news) = self.engine.take(parcels, &wanted, now(), self.application.as_mut())?;
+        let is_new = outcomes.iter().any(|outcome| matches!(outcome, Outcome::Taken | Outcome::Parked));
         for (sender, outcome) in senders.into_iter().zip(outcomes) {
             *self.came.entry(name(outcome)).or_default() += 1;
             match outcome {
@@ -160,7 +161,7 @@ impl Service {
             }
         }
         self.draw(&news);
-        Ok(!news.is_empty())
+        Ok(is_new)
     }
 
     fn draw(&self, news: &News) {
