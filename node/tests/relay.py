@@ -28,9 +28,12 @@ class Relays:
         except OSError:
             writer.close()
             return
-        await asyncio.wait([asyncio.ensure_future(self.hand_on(reader, there_writer)),
-                            asyncio.ensure_future(self.hand_on(there_reader, writer))],
-                           return_when=asyncio.FIRST_COMPLETED)
+        both = [self.hand_on(reader, there_writer), self.hand_on(there_reader, writer)]
+        tasks = [asyncio.ensure_future(one) for one in both]
+        try:
+            await asyncio.wait(tasks, return_when=asyncio.FIRST_COMPLETED)
+        except asyncio.CancelledError:
+            pass  # the relays are closed
         for one in (writer, there_writer):
             one.close()
 
