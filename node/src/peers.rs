@@ -62,6 +62,9 @@ pub struct Peers {
     wanted: HashMap<Need, Wanted>,
     /// Who last sent something that waits: he has what it needs.
     source: Option<u32>,
+    /// Whether the last difference had more. Then peers are compared with one after the other, part by part, so that no
+    /// part comes from two, and none of them can hold the others up.
+    is_behind: bool,
     number: u64,
 }
 
@@ -77,7 +80,7 @@ impl Peers {
             served_until: now,
         };
         let peers = validators.map(|validator| (validator, peer())).collect();
-        Peers { peers, wanted: HashMap::new(), source: None, number: 0 }
+        Peers { peers, wanted: HashMap::new(), source: None, is_behind: false, number: 0 }
     }
 
     /// The needs that are asked for.
@@ -160,6 +163,7 @@ impl Peers {
         if open.needs.is_empty() {
             peer.is_compared |= !has_more;
             peer.compare_at = if has_more { now } else { now + COMPARE };
+            self.is_behind = has_more;
         }
         self.release(&open.needs, now);
         true
@@ -197,7 +201,20 @@ impl Peers {
         order.get((first + wanted.tries) % order.len().max(1)).copied()
     }
 
-    /// What to ask of whom at this moment: to each at most one question, needs before comparisons.
+    /// The peers to compare with now: all that are due, or while this node is far behind, the one that is due longest.
+    fn to_compare(&self, order: &[u32], now: Instant) -> Vec<u32> {
+        let at = |validator: &u32| self.peers.get(validator).map(|peer| peer.compare_at);
+        let mut due: Vec<u32> = order.iter().copied().filter(|one| at(one).is_some_and(|at| at <= now)).collect();
+        due.sort_by_key(at);
+        if self.is_behind {
+            let is_comparing = |peer: &Peer| peer.open.as_ref().is_some_and(|open| open.needs.is_empty());
+            due.truncate(if self.peers.values().any(is_comparing) { 0 } else { 1 });
+        }
+        due
+    }
+
+    /// What to ask of whom at this moment: to each at most one question, and needs before
+    /// comparisons unless this node is far behind.
     pub fn questions(&mut self, now: Instant, compare: impl Fn() -> Question) -> Vec<(u32, u64, Question)> {
         self.expire(now);
         let free = |peer: &Peer| peer.open.is_none() && peer.away_until.is_none();
@@ -209,10 +226,12 @@ impl Peers {
                 needs.entry(validator).or_default().push(*need);
             }
         }
+        let compared = self.to_compare(&order, now);
         let mut questions = Vec::new();
         for validator in order {
-            let due = self.peers.get(&validator).is_some_and(|peer| peer.compare_at <= now);
+            let due = compared.contains(&validator);
             let question = match needs.remove(&validator) {
+                _ if due && self.is_behind => compare(),
                 Some(mut needs) => {
                     needs.truncate(MOST_NEEDS);
                     Question::Needs(needs)
@@ -294,6 +313,21 @@ mod tests {
         let number = turn(&mut peers, now)[0].1;
         assert!(peers.answered(1, number, false, now));
         assert!(peers.not_compared().is_empty());
+    }
+
+    #[test]
+    fn a_long_difference_comes_part_by_part() {
+        let now = Instant::now();
+        let later = now + Duration::from_millis(1);
+        let mut peers = Peers::new([1, 2].into_iter(), now);
+        for (validator, number, _) in turn(&mut peers, now) {
+            assert!(peers.answered(validator, number, true, if validator == 1 { later } else { now }));
+        }
+        let asked = turn(&mut peers, later);
+        assert_eq!(asked.iter().map(|one| one.0).collect::<Vec<_>>(), [2]);
+        assert!(turn(&mut peers, later).is_empty());
+        assert!(peers.answered(2, asked[0].1, true, later + PATIENCE / 2));
+        assert_eq!(turn(&mut peers, later + PATIENCE / 2).iter().map(|one| one.0).collect::<Vec<_>>(), [1]);
     }
 
     #[test]
