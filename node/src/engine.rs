@@ -1,0 +1,325 @@
+//! The core with its store: what comes is judged, delivered and committed, and only then acted upon.
+
+use crate::application::Application;
+use crate::error::Error;
+use crate::genesis::Network;
+use crate::keys::Keys;
+use crate::lanes::Lanes;
+use crate::parcel::Parcel;
+use crate::request::{Answer, Latest, Question, Request};
+use crate::store::{Store, Stored};
+use highway::{Core, Decision, Detached, Need, Place, PlanKind, Receipt, Sent, Signatures, Summary, Unit};
+use std::collections::{BTreeSet, HashSet};
+
+/// An answer has no more vertices, and no more bytes.
+const MOST_PARCELS: usize = 1024;
+const MOST_BYTES: usize = 1 << 20;
+
+/// A unit may be ahead of this node's clock by so many milliseconds.
+const EARLY: u64 = 5_000;
+
+/// What became of a vertex that came.
+#[derive(Clone, Copy, Debug, PartialEq, Eq)]
+pub enum Outcome {
+    /// It is stored.
+    Taken,
+    /// It is stored, and waits for others.
+    Parked,
+    /// It was here already.
+    Repeat,
+    /// It is of a validator that is known as faulty, and nothing that waits needs it; or it is too early.
+    Unwanted,
+    /// The application refuses its value.
+    Invalid,
+    /// No honest peer sends it.
+    Junk,
+    /// There is no room for it.
+    NoRoom,
+}
+
+pub struct Engine {
+    pub me: u32,
+    pub core: Core,
+    store: Store,
+    keys: Keys,
+    network: Network,
+    signatures: Detached,
+    lanes: Lanes,
+    faulty: BTreeSet<u32>,
+}
+
+/// The units that a turn added, for whoever shows them.
+pub type News = Vec<Unit>;
+
+impl Engine {
+    /// A node that has again what its store holds.
+    pub fn start(me: u32, keys: Keys, network: Network, store: Store) -> Result<Engine, Error> {
+        let core = Core::new(&network.config)?;
+        let lanes = Lanes::new(network.keys.0.len());
+        let (signatures, faulty) = (Detached::new(), BTreeSet::new());
+        let mut engine = Engine { me, core, store, keys, network, signatures, lanes, faulty };
+        engine.replay()?;
+        Ok(engine)
+    }
+
+    /// Delivers what is stored, in its order, many at once.
+    fn replay(&mut self) -> Result<(), Error> {
+        let (all, mut place, mut done) = (self.store.count()?, 0, 0);
+        loop {
+            let stored = self.store.behind(place, 4096)?;
+            let Some((last, _)) = stored.last() else { break };
+            place = *last;
+            done += stored.len() as u64;
+            let stored: Vec<Stored> = stored.into_iter().map(|(_, stored)| stored).collect();
+            self.deliver(&stored)?;
+            tracing::info!(done, all, "the store is replayed");
+        }
+        self.note_faulty()
+    }
+
+    /// Delivers vertices, and notes those that the core took. It answers each.
+    fn deliver(&mut self, vertices: &[Stored]) -> Result<Vec<Result<Receipt, highway::Refusal>>, Error> {
+        let (mut bytes, mut sent) = (Vec::new(), Vec::new());
+        for Stored { parcel, verdict } in vertices {
+            let start = bytes.len();
+            bytes.extend(&parcel.vertex);
+            sent.push(Sent { part: start..bytes.len(), verdict: *verdict });
+        }
+        let mut place = self.core.summary()?.journal;
+        let answers = self.core.deliver_all(&bytes, &sent);
+        for (stored, answer) in vertices.iter().zip(&answers) {
+            if matches!(answer, Ok(receipt) if *receipt != Receipt::Repeat) {
+                self.note(&stored.parcel, place)?;
+                place += 1;
+            }
+        }
+        Ok(answers)
+    }
+
+    /// Notes a vertex that stands at this place of the journal.
+    fn note(&mut self, parcel: &Parcel, place: u64) -> Result<(), Error> {
+        for signature in &parcel.signatures {
+            self.signatures.put(signature);
+        }
+        if let Signatures::Unit(one) = Signatures::of(&parcel.vertex)?
+            && let Some(unit) = self.core.unit(one.unit)?
+        {
+            self.lanes.note(unit.creator, unit.seq, place, unit.digest);
+        }
+        Ok(())
+    }
+
+    fn note_faulty(&mut self) -> Result<(), Error> {
+        for validator in self.core.faulty()? {
+            if self.faulty.insert(validator) {
+                tracing::error!(validator, "a validator is faulty");
+            }
+        }
+        Ok(())
+    }
+
+    /// Takes what peers sent: judged, delivered, and committed when this returns. It answers each, and the new units.
+    pub fn take(
+        &mut self,
+        parcels: Vec<Parcel>,
+        wanted: &HashSet<Need>,
+        now: u64,
+        application: &mut dyn Application,
+    ) -> Result<(Vec<Outcome>, News), Error> {
+        let (mut outcomes, mut places, mut good) = (Vec::new(), Vec::new(), Vec::new());
+        for parcel in parcels {
+            let outcome = self.screen(&parcel, wanted, now, application)?;
+            if outcome == Outcome::Taken {
+                places.push(outcomes.len());
+                good.push(Stored { parcel, verdict: true });
+            }
+            outcomes.push(outcome);
+        }
+        let answers = self.deliver(&good)?;
+        let is_new = |answer: &Result<Receipt, _>| matches!(answer, Ok(receipt) if *receipt != Receipt::Repeat);
+        let kept = good.iter().zip(&answers).filter(|(_, answer)| is_new(answer));
+        let kept: Vec<(&Parcel, bool)> = kept.map(|(stored, _)| (&stored.parcel, stored.verdict)).collect();
+        self.store.put(&kept)?;
+        let news = self.units_of(&kept)?;
+        for (place, answer) in places.into_iter().zip(answers) {
+            outcomes[place] = outcome_of(answer);
+        }
+        self.note_faulty()?;
+        Ok((outcomes, news))
+    }
+
+    fn units_of(&self, kept: &[(&Parcel, bool)]) -> Result<News, Error> {
+        let mut units = Vec::new();
+        for (parcel, _) in kept {
+            if let Signatures::Unit(one) = Signatures::of(&parcel.vertex)? {
+                units.extend(self.core.unit(one.unit)?);
+            }
+        }
+        Ok(units)
+    }
+
+    /// What is said of a vertex before the core sees it: taken, if the core may.
+    fn screen(
+        &self,
+        parcel: &Parcel,
+        wanted: &HashSet<Need>,
+        now: u64,
+        application: &mut dyn Application,
+    ) -> Result<Outcome, Error> {
+        let Ok(signed) = Signatures::of(&parcel.vertex) else { return Ok(Outcome::Junk) };
+        if let Some(outcome) = self.is_passed_over(&signed, wanted)? {
+            return Ok(outcome);
+        }
+        if !parcel.is_right(&self.network.keys, &signed) {
+            return Ok(Outcome::Junk);
+        }
+        let Some(unit) = self.core.read_unit(&parcel.vertex)? else { return Ok(Outcome::Taken) };
+        if unit.time > now.saturating_add(EARLY) {
+            return Ok(Outcome::Unwanted);
+        }
+        match unit.value {
+            Some(value) if !application.is_valid(unit.creator, &value)? => Ok(Outcome::Invalid),
+            _ => Ok(Outcome::Taken),
+        }
+    }
+
+    /// A vertex that is here already, or that one faulty key could make without end and nothing needs.
+    fn is_passed_over(&self, signed: &Signatures, wanted: &HashSet<Need>) -> Result<Option<Outcome>, Error> {
+        let unless = |is_wanted: bool| (!is_wanted).then_some(Outcome::Unwanted);
+        Ok(match signed {
+            Signatures::Unit(one) if self.core.place(one.unit)? != Place::Unknown => Some(Outcome::Repeat),
+            Signatures::Unit(one) if self.faulty.contains(&one.validator) => {
+                unless(wanted.contains(&Need::Unit(one.unit)))
+            }
+            Signatures::Unit(_) => None,
+            Signatures::Evidence(one, _) if self.faulty.contains(&one.validator) => Some(Outcome::Repeat),
+            Signatures::Evidence(..) => None,
+            Signatures::Endorsement(one) => unless(wanted.contains(&Need::Endorsed(one.unit))),
+        })
+    }
+
+    /// The own unit, where one is due: committed before it is delivered, and delivered before it is sent.
+    pub fn step(&mut self, now: u64, application: &mut dyn Application) -> Result<Option<(Parcel, News)>, Error> {
+        let summary = self.core.summary()?;
+        if summary.journal >= u64::from(self.network.genesis.records) {
+            return Ok(None);
+        }
+        let Some(mut plan) = self.core.next_unit(self.me, now, b"")? else { return Ok(None) };
+        if plan.kind() == PlanKind::Propose {
+            let value = application.propose(self.round_of(now), summary.fork)?;
+            let Some(with_value) = self.core.next_unit(self.me, now, &value)? else { return Ok(None) };
+            plan = with_value;
+        }
+        let slot = self.keys.signing.sign(false, plan.digest(), &mut self.signatures);
+        let signature = self.signatures.get(&slot).map(<[u8]>::to_vec).unwrap_or_default();
+        let parcel = Parcel { vertex: plan.signed(&slot)?, signatures: vec![signature] };
+        self.store.put(&[(&parcel, true)])?;
+        self.core.deliver(&parcel.vertex, true).map_err(highway::Error::from)?;
+        self.note(&parcel, summary.journal)?;
+        let news = self.units_of(&[(&parcel, true)])?;
+        Ok(Some((parcel, news)))
+    }
+
+    /// When the round of this moment began.
+    fn round_of(&self, now: u64) -> u64 {
+        now >> self.network.genesis.exponents[0] << self.network.genesis.exponents[0]
+    }
+
+    pub fn network(&self) -> &Network {
+        &self.network
+    }
+
+    pub fn faulty(&self) -> &BTreeSet<u32> {
+        &self.faulty
+    }
+
+    pub fn summary(&self) -> Result<Summary, Error> {
+        Ok(self.core.summary()?)
+    }
+
+    /// The latest unit of each validator, by which a peer finds out what this node lacks.
+    pub fn latest(&self) -> Vec<Latest> {
+        let of = |validator: usize| match self.faulty.contains(&(validator as u32)) {
+            true => Latest::Faulty,
+            false => self.lanes.latest(validator),
+        };
+        (0..self.network.keys.0.len()).map(of).collect()
+    }
+
+    /// A vertex of the journal with its signatures.
+    fn parcel(&self, vertex: Vec<u8>) -> Result<Option<Parcel>, Error> {
+        let signatures = self.signatures.of_vertex(&vertex)?;
+        let signatures = signatures.map(|all| all.into_iter().map(<[u8]>::to_vec).collect());
+        Ok(signatures.map(|signatures| Parcel { vertex, signatures }))
+    }
+
+    /// What this node has for a peer's request.
+    pub fn answer(&self, request: &Request) -> Result<Answer, Error> {
+        let number = request.number;
+        match &request.question {
+            Question::Needs(needs) => {
+                Ok(Answer { number, has_more: false, parcels: self.for_needs(needs.iter().copied())? })
+            }
+            Question::Difference(asked) => {
+                let (places, mut has_more) = self.lanes.lacking(asked, MOST_PARCELS);
+                let (mut parcels, mut bytes) = (Vec::new(), 0);
+                for place in places {
+                    parcels.extend(self.parcel(self.core.entry(place)?)?);
+                    bytes += parcels.last().map_or(0, |parcel| parcel.vertex.len());
+                    if bytes > MOST_BYTES {
+                        has_more = true;
+                        break;
+                    }
+                }
+                if !has_more {
+                    parcels.extend(self.for_needs(self.unknown_faults(asked))?);
+                }
+                Ok(Answer { number, has_more, parcels })
+            }
+        }
+    }
+
+    /// The faulty validators that the asker doesn't know as such.
+    fn unknown_faults(&self, asked: &[Latest]) -> impl Iterator<Item = Need> {
+        self.faulty.iter().filter(|one| asked[**one as usize] != Latest::Faulty).map(|one| Need::Evidence(*one))
+    }
+
+    fn for_needs(&self, needs: impl Iterator<Item = Need>) -> Result<Vec<Parcel>, Error> {
+        let mut parcels = Vec::new();
+        for need in needs {
+            for vertex in self.core.for_need(need)? {
+                parcels.extend(self.parcel(vertex)?);
+            }
+        }
+        Ok(parcels)
+    }
+
+    /// The proof against a faulty validator, as a vertex with its signatures.
+    pub fn evidence(&self, validator: u32) -> Result<Option<Parcel>, Error> {
+        Ok(self.for_needs(std::iter::once(Need::Evidence(validator)))?.into_iter().next())
+    }
+
+    /// The final blocks from this place on, each with its unit.
+    pub fn decided_from(&self, told: u64) -> Result<Vec<(Decision, Unit)>, Error> {
+        let mut blocks = Vec::new();
+        for decision in self.core.decisions_from(told) {
+            let unit = self.core.unit(decision.block)?;
+            blocks.extend(unit.map(|unit| (decision, unit)));
+        }
+        Ok(blocks)
+    }
+
+    pub fn commits(&self) -> u64 {
+        self.store.commits
+    }
+}
+
+fn outcome_of(answer: Result<Receipt, highway::Refusal>) -> Outcome {
+    match answer {
+        Ok(Receipt::Repeat) => Outcome::Repeat,
+        Ok(Receipt::Parked { .. }) => Outcome::Parked,
+        Ok(_) => Outcome::Taken,
+        Err(refusal) if refusal.is_fault_of_sender() => Outcome::Junk,
+        Err(_) => Outcome::NoRoom,
+    }
+}
