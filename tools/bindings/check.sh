@@ -39,7 +39,7 @@ packaged() {
     compgen -G "$crate" >/dev/null && return 0
     if [ -n "${CI:-}" ] && command -v apt-get >/dev/null; then
         echo "bindings: installs librust-ring-dev"
-        { apt-get update -qq && apt-get install -y -qq librust-ring-dev; } >/dev/null 2>&1
+        { timeout 120 apt-get update -qq && timeout 300 apt-get install -y -qq librust-ring-dev; } >/dev/null 2>&1
         compgen -G "$crate" >/dev/null && return 0
     fi
     echo "bindings: skipped, since there is no librust-ring-dev here: Ed25519"

@@ -1,8 +1,8 @@
 #!/usr/bin/env python3
 """Holds the documents against the repository: check_documents.py [--write] [ROOT]
 
-It reads the pages at the top, docs/*.md and the READMEs below bindings/, crates/ and tools/, and says each place where
-a page names what isn't there:
+It reads the pages at the top, docs/*.md and the READMEs below bindings/, crates/, node/ and tools/, and says each place
+where a page names what isn't there:
 
 - a link to a file of the repository, or a path in backquotes that begins with a folder of it;
 - a crate: a word that begins with hw_ and isn't in crates.txt;
@@ -18,7 +18,7 @@ import sys
 from pathlib import Path
 
 WIDTH = 120
-FOLDERS = ("crates", "docs", "tools", "bindings", ".ci")
+FOLDERS = ("crates", "docs", "tools", "bindings", "node", ".ci")
 SOURCES = ("*.rt", "*.antt", "*.py", "*.rs", "*.h", "*.c", "*.js", "*.sh", "*.toml", "*.txt", "stdin", "stdout")
 LINK = re.compile(r"\[[^\]]*\]\(([^)\s]+)\)")
 QUOTED = re.compile(r"`([^`]+)`")
@@ -33,7 +33,7 @@ SHORTEST = 3
 def pages_of(root):
     """The documents, as paths."""
     found = [*sorted(root.glob("*.md")), *sorted((root / "docs").glob("*.md"))]
-    for folder in ("bindings", "crates", "tools"):
+    for folder in ("bindings", "crates", "node", "tools"):
         found += sorted((root / folder).glob("**/README.md"))
     return [page for page in found if page.is_file() and "target" not in page.parts]
 
@@ -51,7 +51,7 @@ def crates_of(root):
 def words_of(root):
     """Each word of the sources, file names among them."""
     found = set()
-    for folder in ("crates", "tools", "bindings"):
+    for folder in ("crates", "tools", "bindings", "node"):
         for kind in SOURCES:
             for path in (root / folder).rglob(kind):
                 if "out" in path.parts or "target" in path.parts or not path.is_file():
