@@ -8,7 +8,7 @@ use crate::lanes::Lanes;
 use crate::parcel::Parcel;
 use crate::request::{Answer, Latest, Question, Request};
 use crate::store::{Store, Stored};
-use highway::{Core, Decision, Detached, Need, Place, PlanKind, Receipt, Sent, Signatures, Summary, Unit};
+use highway::{Core, Decision, Detached, Need, Place, PlanKind, Receipt, Sent, Signatures, Summary, Task, Unit};
 use std::collections::{BTreeSet, HashSet};
 
 /// An answer has no more vertices, and no more bytes.
@@ -35,6 +35,14 @@ pub enum Outcome {
     Junk,
     /// There is no room for it.
     NoRoom,
+}
+
+/// What came of asking for the own unit.
+pub enum Step {
+    /// It was made, and is to be sent.
+    Made(Parcel, News),
+    /// None is due, and none becomes due before this moment while nothing comes in.
+    Nothing { until: u64 },
 }
 
 pub struct Engine {
@@ -199,30 +207,28 @@ impl Engine {
     }
 
     /// The own unit, where one is due: committed before it is delivered, and delivered before it is sent.
-    pub fn step(&mut self, now: u64, application: &mut dyn Application) -> Result<Option<(Parcel, News)>, Error> {
-        let summary = self.core.summary()?;
-        if summary.journal >= u64::from(self.network.genesis.records) {
-            return Ok(None);
+    pub fn step(&mut self, now: u64, application: &mut dyn Application) -> Result<Step, Error> {
+        let journal = self.core.summary()?.journal;
+        if journal >= u64::from(self.network.genesis.records) {
+            return Ok(Step::Nothing { until: u64::MAX });
         }
-        let Some(mut plan) = self.core.next_unit(self.me, now, b"")? else { return Ok(None) };
-        if plan.kind() == PlanKind::Propose {
-            let value = application.propose(self.round_of(now), summary.fork)?;
-            let Some(with_value) = self.core.next_unit(self.me, now, &value)? else { return Ok(None) };
-            plan = with_value;
-        }
+        let due = self.core.due(self.me, now)?;
+        let value = match due.task {
+            Task::Nothing(_) => return Ok(Step::Nothing { until: due.next }),
+            Task::Make(PlanKind::Propose) => application.propose(due.round, due.parent)?,
+            Task::Make(_) => Vec::new(),
+        };
+        let Some(plan) = self.core.next_unit(self.me, now, &value)? else {
+            return Ok(Step::Nothing { until: due.next });
+        };
         let slot = self.keys.signing.sign(false, plan.digest(), &mut self.signatures);
         let signature = self.signatures.get(&slot).map(<[u8]>::to_vec).unwrap_or_default();
         let parcel = Parcel { vertex: plan.signed(&slot)?, signatures: vec![signature] };
         self.store.put(&[(&parcel, true)])?;
         self.core.deliver(&parcel.vertex, true).map_err(highway::Error::from)?;
-        self.note(&parcel, summary.journal)?;
+        self.note(&parcel, journal)?;
         let news = self.units_of(&[(&parcel, true)])?;
-        Ok(Some((parcel, news)))
-    }
-
-    /// When the round of this moment began.
-    fn round_of(&self, now: u64) -> u64 {
-        now >> self.network.genesis.exponents[0] << self.network.genesis.exponents[0]
+        Ok(Step::Made(parcel, news))
     }
 
     pub fn network(&self) -> &Network {

@@ -1,18 +1,13 @@
-//! When the core is asked for an own unit.
+//! How long a node sleeps where nothing comes in.
 
 use std::time::Duration;
 
-/// No sleep is longer, so that a unit that became due for another reason is late by this at most.
-const LONGEST: u64 = 20;
+/// No sleep is longer: time-outs, the page and the end of the process are looked at this often.
+const LONGEST: u64 = 100;
 
-/// How long a node may sleep before it asks again: until the next round begins, or two thirds of this one are over, if
-/// that is sooner than the longest sleep. After each delivery it asks anyway.
-pub fn sleep(now: u64, least_exponent: u8) -> Duration {
-    let length = 1u64 << least_exponent;
-    let into = now & (length - 1);
-    let moments = [length, length - length / 3];
-    let next = moments.into_iter().filter(|moment| *moment > into).map(|moment| moment - into).min();
-    Duration::from_millis(next.unwrap_or(LONGEST).min(LONGEST))
+/// How long a node may sleep at this moment, where no own unit becomes due before the next one.
+pub fn sleep(now: u64, next: u64) -> Duration {
+    Duration::from_millis(next.saturating_sub(now).min(LONGEST))
 }
 
 #[cfg(test)]
@@ -20,9 +15,9 @@ mod tests {
     use super::*;
 
     #[test]
-    fn a_sleep_ends_at_a_rounds_begin_or_before() {
-        assert_eq!(sleep(1024, 10), Duration::from_millis(20));
-        assert_eq!(sleep(2045, 10), Duration::from_millis(3));
-        assert_eq!(sleep(680, 10), Duration::from_millis(3));
+    fn a_sleep_ends_at_the_next_moment_or_before() {
+        assert_eq!(sleep(1024, u64::MAX), Duration::from_millis(100));
+        assert_eq!(sleep(2045, 2048), Duration::from_millis(3));
+        assert_eq!(sleep(2049, 2048), Duration::ZERO);
     }
 }

@@ -1,7 +1,7 @@
 //! A node at work: it hears its peers, answers them, makes its units, and asks for what it lacks.
 
 use crate::application::{Application, FinalBlock};
-use crate::engine::{Engine, News, Outcome};
+use crate::engine::{Engine, News, Outcome, Step};
 use crate::error::Error;
 use crate::hex;
 use crate::links::{Asked, Links};
@@ -38,6 +38,8 @@ pub struct Service {
     own_units: u64,
     came: BTreeMap<&'static str, u64>,
     is_waiting: bool,
+    /// Before this moment no own unit becomes due while nothing comes in.
+    until: u64,
     warned_at: u64,
     shown_at: Instant,
 }
@@ -80,6 +82,7 @@ impl Service {
             own_units: 0,
             came: BTreeMap::new(),
             is_waiting: true,
+            until: u64::MAX,
             warned_at: 0,
             shown_at: Instant::now(),
         }
@@ -97,8 +100,7 @@ impl Service {
     }
 
     fn turn(&mut self) -> Result<(), Error> {
-        let exponent = self.engine.network().genesis.exponents[0];
-        self.links.wait(pace::sleep(now(), exponent))?;
+        self.links.wait(pace::sleep(now(), self.until))?;
         let came = self.heard();
         let has_news = self.take(came)?;
         let has_stepped = self.step()?;
@@ -186,12 +188,19 @@ impl Service {
             tracing::info!("every peer was heard, so this validator makes its units");
         }
         let before = self.own_units;
-        while let Some((parcel, news)) = self.engine.step(now(), self.application.as_mut())? {
-            self.links.publish(&parcel);
-            self.own_units += 1;
-            self.draw(&news);
+        loop {
+            match self.engine.step(now(), self.application.as_mut())? {
+                Step::Made(parcel, news) => {
+                    self.links.publish(&parcel);
+                    self.own_units += 1;
+                    self.draw(&news);
+                }
+                Step::Nothing { until } => {
+                    self.until = until;
+                    return Ok(self.own_units > before);
+                }
+            }
         }
-        Ok(self.own_units > before)
     }
 
     /// Answers requests: one of each peer at a time, and no more than its share.
