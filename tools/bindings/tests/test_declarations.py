@@ -49,7 +49,9 @@ class Compared(unittest.TestCase):
         self.assertEqual([it.split(":")[0] for it in rows], ["highway.h", "bindings/rust"])
 
     def test_two_parameters_exchanged(self):
-        text = self.swapped(HEADER, "uint32_t validator, uint64_t now, const", "uint64_t now, uint32_t validator, const")
+        text = self.swapped(
+            HEADER, "uint32_t validator, uint64_t now, const", "uint64_t now, uint32_t validator, const"
+        )
         self.assertIn("call hw_next_unit", self.found(header=text)[0])
 
     def test_a_pointer_that_may_be_written(self):
