@@ -274,22 +274,30 @@ def sum_of(*parts):
     return hashlib.sha256(repr(parts).encode()).hexdigest()
 
 
+def line_read(crate, texts):
+    """Returns the crate's line, less the libraries that none of these texts names: a check reads nothing of those."""
+    words = set(re.findall(r"\w+", " ".join(texts)))
+    head, _, names = crate.line.partition(":")
+    return " ".join([head.strip(), ":", *(it for it in names.split() if it in words)])
+
+
 def own_sum(crate):
     """Returns a checksum of what the verdict on a page reads of its own crate."""
     texts = [(it, heard(it, text_of(f"{crate.folder}/{it}"))) for it in files_of(crate.folder)]
-    return sum_of(crate.line, texts)
+    return sum_of(line_read(crate, [text for _, text in texts]), texts)
 
 
 def interface_sum(library, with_code=False):
     """Returns a checksum of what a check of a crate above reads of the library."""
-    texts = []
+    texts, all_texts = [], []
     for path in files_of(library.folder):
         text = text_of(f"{library.folder}/{path}")
+        all_texts.append(heard(path, text))
         if path.endswith(".rt") and not with_code:
             texts.append((path, interface_of(text)))
         elif not is_of_a_function(path):
-            texts.append((path, heard(path, text)))
-    return sum_of(library.line, texts)
+            texts.append((path, all_texts[-1]))
+    return sum_of(line_read(library, all_texts), texts)
 
 
 def below_sum(crate, known):

@@ -1,9 +1,9 @@
 """The record of tried pages, crates/NAME/must-fail/TRIED.md: what was refused, by which function, and over what.
 
-A page's checksum is over all that its verdict depends on: its changes, the crate's own files and its line of crates.txt,
-and the interfaces of the libraries below (rattle_sources.py says what that is, and why it is enough). The toolchain's
-line stands in the head, apart from the checksums: another toolchain makes no record false that was made, but whoever
-has one may want all tried again."""
+A page's checksum is over all that its verdict depends on: its changes, the crate's own files, the libraries of
+crates.txt that they name, and the interfaces of the libraries below (rattle_sources.py says what that is, and why it is
+enough). The toolchain's line stands in the head, apart from the checksums: another toolchain makes no record false that
+was made, but whoever has one may want all tried again."""
 
 import os
 import re

@@ -227,13 +227,23 @@ class Sources(InRepository):
             ("crates/low/src/lib.rt", "self.open() && self.open()", "self.open()"),
             ("crates/low/specs/Words.antt", "word = 1", "word = 2"),
             ("crates/low/proofs/Laws.antt", "≡ 1", "≡ 2"),
-            ("crates.txt", "low: sha2", "low: sha2 hex"),
         ]
         for path, old, new in changes:
             before = rattle_sources.below_sum(self.top, {})
             self.change(path, old, new)
             self.read()
             self.assertNotEqual(rattle_sources.below_sum(self.top, {}), before, path)
+
+    def test_a_library_counts_where_a_file_names_it(self):
+        before = rattle_sources.below_sum(self.top, {})
+        self.change("crates.txt", "low: sha2", "low: sha2 hex")
+        self.read()
+        self.assertEqual(rattle_sources.below_sum(self.top, {}), before)
+        self.change("crates/low/specs/Words.antt", "-- words\n", "-- words\nuse Rattle.hex.specs.Digits\n")
+        named = rattle_sources.below_sum(self.top, {})
+        self.change("crates.txt", "low: sha2 hex", "low: sha2")
+        self.read()
+        self.assertNotEqual(rattle_sources.below_sum(self.top, {}), named)
 
     def test_below_a_program_the_code_counts(self):
         os.rename(f"{self.root}/crates/top/src/lib.rt", f"{self.root}/crates/top/src/main.rt")
