@@ -94,11 +94,11 @@ module _ (place : ℕ) (lasts : LastUnits) (v : Vertex) (range : VertexInRange v
 -- ---- whole entries before it
 
 -- what the entries say behind which this one is torn
-record IsTorn (place : ℕ) (lasts : LastUnits) (entries : List LogEntry) (part : List ℕ) : Type 0 where
-  given : List LogEntry
-  says : entries_of (record { rest = rest_at place (entries_bytes lasts entries ++ part); lasts = lasts }) ≡ record { given = given; fault = Some (Torn (place + length (entries_bytes lasts entries))) }
+pub record IsTorn (place : ℕ) (lasts : LastUnits) (entries : List LogEntry) (part : List ℕ) : Type 0 where
+  pub given : List LogEntry
+  pub says : entries_of (record { rest = rest_at place (entries_bytes lasts entries ++ part); lasts = lasts }) ≡ record { given = given; fault = Some (Torn (place + length (entries_bytes lasts entries))) }
 
-torn_behind : (place : ℕ) (lasts : LastUnits) (entries : List LogEntry) (v : Vertex) (k : ℕ) → VertexInRange v → VertexFits v → AllByRecursion EntryFits entries → 0 < k → k < length (entry_bytes (lasts_behind lasts entries) true v)
+pub torn_behind : (place : ℕ) (lasts : LastUnits) (entries : List LogEntry) (v : Vertex) (k : ℕ) → VertexInRange v → VertexFits v → AllByRecursion EntryFits entries → 0 < k → k < length (entry_bytes (lasts_behind lasts entries) true v)
     → IsTorn place lasts entries (take k (entry_bytes (lasts_behind lasts entries) true v))
 torn_behind place lasts [] v k range fit each some less = record {
   given = [];
@@ -162,7 +162,7 @@ module _ (version : ℕ) (n : NodeState) (sound : IsSound n) (known : IsVersion 
       )
 
 -- one that is whole stays as it is
-whole_mended : (version : ℕ) (c : Config) (vs : List Vertex) → IsVersion version → config_fault c ≡ None → ConfigInRange c → All EntryFits (true_entries vs)
+pub whole_mended : (version : ℕ) (c : Config) (vs : List Vertex) → IsVersion version → config_fault c ≡ None → ConfigInRange c → All EntryFits (true_entries vs)
     → (count : ℕ) × (mended_of (journal_log version c vs) ≡ Ok (record { count = count; bytes = journal_log version c vs }))
 unfolding mended_of
 whole_mended version c vs known lawful range each =

@@ -1,0 +1,3 @@
+pub mod CrashLaws
+pub mod SampleLaws
+pub mod CutLaws

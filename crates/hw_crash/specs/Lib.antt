@@ -1,0 +1,4 @@
+pub mod Disk
+pub mod Laws
+pub mod Sample
+pub mod Cuts
