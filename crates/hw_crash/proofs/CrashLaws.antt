@@ -1,26 +1,22 @@
 -- What a power failure leaves of a node.
-use Rattle.std.specs.Prelude.{fold, take, min, ◌+◌, not, ◌&&◌, ◌||◌, ◌==◌, nat_le, filter_map}
-use Rattle.std.specs.List.{list_any}
+use Rattle.std.specs.Prelude.{take, ◌+◌, not, ◌&&◌, ◌||◌, ◌==◌, nat_le, filter_map}
 use Rattle.std.proofs.Common.{◌≡◌, ℕ, zero, suc, ◌<◌, ◌≤◌, ◌⊎◌, Bool, true, false, cond, List, [], ◌∷◌, ◌++◌, length, Option, Some, None, refl, sym, ap, subst, ◌∙◌, inl, inr, arith, eqb-true, leb-true, leb-false}
 use Rattle.std.proofs.lemmas.List.{take_all, take-append-le, length-append, length-take, append-nil}
 use Rattle.hw_types.specs.declared.unit.SignedUnit.{SignedUnit}
 use Rattle.hw_types.specs.declared.unit.WireUnit.{WireUnit}
 use Rattle.hw_types.specs.declared.unit.Evidence.{Evidence}
-use Rattle.hw_types.specs.declared.unit.Signature.{Signature}
 use Rattle.hw_types.specs.declared.unit.Vertex.{Vertex}
 use Rattle.hw_types.specs.declared.unit.Vertex.TheVariants as vertex
 use Rattle.hw_types.specs.declared.answers.Plan.{Plan}
-use Rattle.hw_types.specs.declared.answers.PairFault.{PairFault}
 use Rattle.hw_types.specs.declared.answers.PairFault.TheVariants as fault
 use Rattle.hw_types.specs.Below.{Among}
 use Rattle.hw_types.specs.Limits.{config_fault}
 use Rattle.hw_types.specs.Same.{unit_eq}
 use Rattle.hw_types.specs.Graph.{digest_eq}
-use Rattle.hw_types.specs.Journal.{Setting, named, received_of, answer, is_accepted, journal_of, evidence_in, pair_fault, evidence_fault}
+use Rattle.hw_types.specs.Journal.{Setting, named, received_of, answer, is_accepted, journal_of, evidence_in, evidence_fault}
 use Rattle.hw_types.specs.Step.{step}
 use Rattle.hw_types.specs.Culprits.{signed_in}
 use Rattle.hw_types.proofs.EntryLaws.{append_cases, among_mapped}
-use Rattle.hw_types.proofs.UnionLaws.{from_left}
 use Rattle.hw_safety.proofs.PairLaws.{delivered_pairs}
 use Rattle.hw_honest.specs.OneLine.{BringsNoNew, units_by}
 use Rattle.hw_honest.specs.Restart.{Logged, Event, make, take as arrives, restart, logged, trusted, signed_by, after_event, IsFair, MayGoOut}
@@ -34,7 +30,7 @@ use Rattle.hw_crash.specs.Laws.{Begins, CrashesKeepOneLine, NothingToldIsLost, T
 -- ---- lists
 
 -- what is among the first of a list is in it
-among_taken : (k : ℕ) (l : List Vertex) (v : Vertex) → Among v (take k l) → Among v l
+pub among_taken : (k : ℕ) (l : List Vertex) (v : Vertex) → Among v (take k l) → Among v l
 among_taken zero l v m = absurd m
 among_taken (suc k) [] v m = absurd m
 among_taken (suc k) (x ∷ l) v (inl e) = inl e
@@ -69,7 +65,7 @@ taken_of_more l more k few = go (nat_le k (length l)) refl
 
 module _ (s : Setting) (me : ℕ) where
   -- an event adds at most one entry to the log
-  log_more : (n : Logged) (e : Event) → (more : List Vertex) × ((after_event s me n e).log ≡ n.log ++ more) × (length more ≤ 1)
+  pub log_more : (n : Logged) (e : Event) → (more : List Vertex) × ((after_event s me n e).log ≡ n.log ++ more) × (length more ≤ 1)
   unfolding after_event
   log_more n (make now value signature) = go (step s (received_of s n.journal) me now value)
     where

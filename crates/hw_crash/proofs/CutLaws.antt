@@ -1,6 +1,6 @@
 -- A log of which a first part is left, mended.
 use Rattle.std.specs.Prelude.{take}
-use Rattle.std.proofs.Common.{◌≡◌, ◌⊎◌, ℕ, zero, suc, ◌+◌, ◌-◌, ◌<◌, ◌≤◌, true, List, [], ◌∷◌, ◌++◌, length, Option, Some, None, Result, Ok, Err, inl, inr, refl, sym, ap, subst, ◌∙◌, arith, length-append}
+use Rattle.std.proofs.Common.{◌≡◌, ◌⊎◌, ℕ, zero, suc, ◌+◌, ◌-◌, ◌<◌, ◌≤◌, true, List, [], ◌∷◌, ◌++◌, length, Some, None, Result, Ok, inl, inr, refl, sym, ap, subst, ◌∙◌, arith, length-append}
 use Rattle.std.specs.List.{AllByRecursion}
 use Rattle.std.proofs.lemmas.Bool.{cases_lt}
 use Rattle.std.proofs.lemmas.List.{append_assoc, take_all, take-append-le}
@@ -14,9 +14,10 @@ use Rattle.hw_codec.specs.Ranges.{ConfigInRange, VertexInRange}
 use Rattle.hw_log.specs.declared.error.LogError.{LogError}
 use Rattle.hw_log.specs.declared.error.LogError.TheVariants.{Torn}
 use Rattle.hw_log.specs.Lasts.{LastUnits, IsVersion, no_lasts, lasts_after}
-use Rattle.hw_log.specs.Log.{◌>>=◌, Left, rest_at, Entries, entries_of, log_of, header_bytes, entry_bytes, entries_bytes, lasts_behind}
+use Rattle.hw_log.specs.Log.{◌>>=◌, Left, rest_at, Entries, log_of, header_bytes, entry_bytes, entries_bytes, lasts_behind}
 use Rattle.hw_log.specs.Spelled.{EntryFits}
-use Rattle.hw_log.specs.Rewritten.{Rewritten, whole_entries, with_bytes, mended_of}
+use Rattle.hw_log.specs.declared.rewritten.Rewritten.{Rewritten}
+use Rattle.hw_log.specs.Rewritten.{whole_entries, with_bytes, mended_of}
 use Rattle.hw_log.proofs.MoreLaws.{header_of-reads}
 use Rattle.hw_log.proofs.RunLaws.{with_entries}
 use Rattle.hw_log.proofs.AppendLaws.{header_again, log_ok}

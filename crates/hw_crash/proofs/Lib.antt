@@ -1,3 +1,4 @@
 pub mod CrashLaws
 pub mod SampleLaws
 pub mod CutLaws
+pub mod LeftLaws

@@ -1,5 +1,5 @@
 -- A worked power failure.
-use Rattle.std.proofs.Common.{◌≡◌, ℕ, ◌⊎◌, inl, inr, true, List, [], ◌∷◌, ◌++◌, None, refl, ap, ◌∙◌, arith}
+use Rattle.std.proofs.Common.{◌≡◌, inl, inr, [], ◌++◌, None, refl, ap, ◌∙◌, arith}
 use Rattle.hw_types.specs.declared.unit.SignedUnit.{SignedUnit}
 use Rattle.hw_types.specs.Limits.{config_fault}
 use Rattle.hw_honest.specs.Cluster.{signed}

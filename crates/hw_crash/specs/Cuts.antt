@@ -8,7 +8,8 @@ use Rattle.hw_types.specs.Limits.{config_fault}
 use Rattle.hw_codec.specs.Ranges.{ConfigInRange}
 use Rattle.hw_log.specs.Lasts.{IsVersion}
 use Rattle.hw_log.specs.Spelled.{EntryFits}
-use Rattle.hw_log.specs.Rewritten.{Rewritten, mended_of}
+use Rattle.hw_log.specs.declared.rewritten.Rewritten.{Rewritten}
+use Rattle.hw_log.specs.Rewritten.{mended_of}
 use Rattle.hw_session.specs.Restart.{true_entries, journal_log}
 
 -- The first so many bytes of the log of these vertices are left, and in them the first so many entries are whole. That

@@ -1,14 +1,13 @@
 -- What power failures leave of a validator: the statements.
 -- Source: ours.
-use Rattle.std.specs.Prelude.{◌≡◌, ℕ, ◌<◌, ◌≤◌, List, [], length, None}
-use Rattle.hw_types.specs.declared.unit.SignedUnit.{SignedUnit}
+use Rattle.std.specs.Prelude.{◌≡◌, ℕ, ◌<◌, ◌≤◌, List, length, None}
 use Rattle.hw_types.specs.declared.unit.WireUnit.{WireUnit}
 use Rattle.hw_types.specs.declared.unit.Vertex.{Vertex}
 use Rattle.hw_types.specs.Below.{Among}
 use Rattle.hw_types.specs.Limits.{config_fault}
 use Rattle.hw_types.specs.Journal.{Setting}
 use Rattle.hw_honest.specs.OneLine.{BringsNoNew}
-use Rattle.hw_honest.specs.Restart.{Logged, MayGoOut}
+use Rattle.hw_honest.specs.Restart.{MayGoOut}
 use Rattle.hw_honest.specs.Laws.{IsSafeToStart}
 use Rattle.hw_crash.specs.Disk.{OnDisk, DiskEvent, started_from, life_on_disk, sure_part, WasTold, ComesBack, AreCareful}
 

@@ -2,3 +2,4 @@ pub mod Disk
 pub mod Laws
 pub mod Sample
 pub mod Cuts
+pub mod Left

@@ -7,4 +7,6 @@
 
 mod laws;
 
-pub use laws::{a_power_failure, crashes_keep_one_line, cut_logs_are_mended};
+pub use laws::{
+    a_power_failure, crashes_keep_one_line, cut_logs_are_mended, what_is_left_is_ready,
+};
