@@ -2,7 +2,7 @@
 
 ghost use Rattle.hw_crash.specs.Laws.{CrashesKeepOneLine, NothingToldIsLost, ToldUnitsApart, WhatWasToldComesBack};
 ghost use Rattle.hw_crash.specs.Cuts.{CutLogsAreMended};
-ghost use Rattle.hw_crash.specs.Left.{WhatIsLeftIsReady};
+ghost use Rattle.hw_crash.specs.Left.{WhatIsLeftStarts, WhatIsLeftIsReady};
 ghost use Rattle.hw_crash.specs.Sample.{APowerFailure};
 
 /// A node is on a disk, and tells others only what the disk has for sure. Then whatever power failures leave of its
@@ -21,11 +21,12 @@ pub fn cut_logs_are_mended()
     ensures { CutLogsAreMended }
 {}
 
-/// A node that starts from what a power failure left of its log, mended, is ready as a first node has to be: its own
-/// units are on one line, and its log is that of its journal. All that might go out of what the disk had for sure is
+/// After a power failure a node starts from what is left of its log, mended. It is ready as a first node has to be: its
+/// own units are on one line, and its log is that of its journal. All that might go out of what the disk had for sure is
 /// still there.
 pub fn what_is_left_is_ready()
-    ensures { WhatIsLeftIsReady }
+    ensures starts { WhatIsLeftStarts }
+    ensures ready { WhatIsLeftIsReady }
 {}
 
 /// A validator that makes a unit, loses it with the power before it told it, and makes another one of its number.
