@@ -104,8 +104,8 @@ export function errorOf(status, answer = { at: 0, digest: "" }) {
   }
   if (status >= 0x310 && status < 0x314) return made(BadPair, `no pair: ${PAIRS[low]}`, { fault: PAIRS[low] });
   if (status === 0x320) return made(Clash, `another unit has the digest ${answer.digest}`, { digest: answer.digest });
-  if (status > 0x400 && status < 0x414) {
-    const rule = status - 0x400;
+  const rule = status - 0x400;
+  if (RULES[rule]) {
     return made(LocalRule, `the unit breaks a rule of its own: ${RULES[rule]}`, { rule });
   }
   if (status >= 0x500 && status < 0x525) {

@@ -57,6 +57,17 @@ def rules_of_wrapper(text):
     return {name: int(number) for name, number in re.findall(r"^\s*(\w+) = (\d+), \"", text, re.M)}
 
 
+def rule_texts_of_wrapper(text):
+    """What the wrapper says of each rule, by number."""
+    return {int(number): said for number, said in re.findall(r"^\s*\w+ = (\d+), \"(.*)\";", text, re.M)}
+
+
+def rule_texts_of_script(text):
+    """What the module for JavaScript says of each rule, by number."""
+    (listed,) = re.findall(r"^export const RULES = \[(.*?)^\];", text, re.M | re.S)
+    return dict(enumerate(re.findall(r'"(.*?)"', listed), 1))
+
+
 def fields(text):
     """The fields of a struct in Rattle or in Rust: pairs of name and type."""
     text = re.sub(r"//[^\n]*", "", text)
@@ -143,12 +154,13 @@ def differences(what, crate, other, where):
     return [f"{where}: {what} {it}: {other.get(it)}, and in the crate {crate.get(it)}" for it in names]
 
 
-def compared(crate, rules, header, wrapper, wrapper_rules):
+def compared(crate, rules, header, wrapper, wrapper_rules, script):
     """Where the texts differ, as lines, and how much there is of what. Each text is given whole."""
     statuses, calls, structs = numbers_of(crate), calls_of_crate(crate), structs_of_crate(crate)
     found = differences("status", statuses, numbers_of_header(header), "highway.h")
     found += differences("status", statuses, numbers_of(wrapper), "bindings/rust")
     found += differences("rule", rules_of_crate(rules), rules_of_wrapper(wrapper_rules), "bindings/rust")
+    found += differences("rule", rule_texts_of_wrapper(wrapper_rules), rule_texts_of_script(script), "bindings/js")
     found += differences("struct", structs, structs_of_header(header), "highway.h")
     found += differences("struct", structs, structs_of_wrapper(wrapper), "bindings/rust")
     found += differences("call", calls, calls_of_header(header), "highway.h")
@@ -177,13 +189,15 @@ def version_faults(top=TOP):
 
 
 def texts(top=TOP):
-    """The texts that are compared: the crate, the numbers of rules, the header, and the wrapper's declarations and rules."""
+    """The texts that are compared: the crate, the numbers of rules, the header, the wrapper's declarations and rules, and
+    the module for JavaScript."""
     folder, wrapper = top / "crates/hw_c/src", top / "bindings/rust/src"
     crate = "\n".join(it.read_text() for it in sorted(folder.glob("*.rt")))
     declared = (wrapper / "sys.rs").read_text() + (wrapper / "status.rs").read_text()
     header = (top / "bindings/c/highway.h").read_text()
     rules = (top / "crates/hw_text/src/rules.rt").read_text()
-    return crate, rules, header, declared, (wrapper / "rule.rs").read_text()
+    script = (top / "bindings/js/highway.js").read_text()
+    return crate, rules, header, declared, (wrapper / "rule.rs").read_text(), script
 
 
 def main():

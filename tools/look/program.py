@@ -66,7 +66,7 @@ def build(name, to, stages):
     crate = next((it for it in rtlib.crates_below(ROOT) if it.name == name), None)
     if crate is None:
         raise BuildError(f"crates.txt has no crate {name}")
-    stages.say(f"{name} is built without proof, once for these sources: about 110 seconds of one processor")
+    stages.say(f"{name} is built without proof, once for these sources: a minute or two of one processor")
     with tempfile.TemporaryDirectory(prefix="look-") as work:
         with stages.stage(f"reading {name} and the {len(crate.below())} crates below it"):
             module = kept_module(rtlib, crate, crate.folder, work, stages)

@@ -4,20 +4,20 @@ import unittest
 
 from bindings import declarations as numbers
 
-CRATE, RULES, HEADER, WRAPPER, WRAPPER_RULES = numbers.texts()
+CRATE, RULES, HEADER, WRAPPER, WRAPPER_RULES, SCRIPT = numbers.texts()
 
 
 class Compared(unittest.TestCase):
     def found(self, **changed):
         given = {"crate": CRATE, "rules": RULES, "header": HEADER, "wrapper": WRAPPER, "wrapper_rules": WRAPPER_RULES}
-        return numbers.compared(**{**given, **changed})[0]
+        return numbers.compared(**{**given, "script": SCRIPT, **changed})[0]
 
     def swapped(self, text, old, new):
         self.assertEqual(text.count(old), 1, old)
         return text.replace(old, new)
 
     def test_as_they_are_they_are_the_same(self):
-        found, counts = numbers.compared(CRATE, RULES, HEADER, WRAPPER, WRAPPER_RULES)
+        found, counts = numbers.compared(CRATE, RULES, HEADER, WRAPPER, WRAPPER_RULES, SCRIPT)
         self.assertEqual(found, [])
         self.assertEqual(counts, {"statuses": 19, "rules": 19, "structs": 16, "calls": 25})
 
@@ -32,8 +32,10 @@ class Compared(unittest.TestCase):
         self.assertIn("status CLASH: None", row)
 
     def test_a_rule(self):
-        (row,) = self.found(wrapper_rules=self.swapped(WRAPPER_RULES, "Naive = 18", "Naive = 17"))
-        self.assertIn("rule Naive: 17", row)
+        row, *_ = self.found(wrapper_rules=self.swapped(WRAPPER_RULES, "Naive = 18", "Naive = 17"))
+        self.assertIn("bindings/rust: rule Naive: 17", row)
+        (row,) = self.found(script=self.swapped(SCRIPT, ', "naive", "after the last block"', ', "naive"'))
+        self.assertIn("bindings/js: rule 19: None", row)
 
     def test_two_fields_exchanged(self):
         (row,) = self.found(header=self.swapped(HEADER, "uint64_t height, quorum, at;", "uint64_t quorum, height, at;"))
