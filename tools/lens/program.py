@@ -76,7 +76,7 @@ def need_program(given=None):
     """The program, or the error that says where it was looked for."""
     path, _ = named_program(given)
     if not path.is_file() or not os.access(path, os.X_OK):
-        raise ProgramError(f"no program at {path}: build crates/highway, or name it with --program or HIGHWAY")
+        raise ProgramError(f"no program at {path}: name one by --program or HIGHWAY; tools/look.sh needs no proof")
     return Program(path.resolve())
 
 
