@@ -6,7 +6,7 @@ Each step is a name of NAME, or all are done:
 
 - each program, `highway` and the three of worked cases, built without proof, and run against its stored texts,
 - `layout`: each file stands as `rt fmt` lays it out,
-- `records`, `documents`, `headline`, `declarations`, `style`: what `.ci/run` wants beside the proofs,
+- `records`, `documents`, `headline`, `theorem`, `declarations`, `style`: what `.ci/run` wants beside the proofs,
 - `tools`: the tests of the tools, with the program built here.
 
 Programs are kept by the state of the sources, as tools/look.sh keeps them. The last lines are `N passed, M failed` and
@@ -35,6 +35,7 @@ CHECKS = {
     "records": ("tools/wrong_bodies.py", "--current"),
     "documents": ("tools/gate/check_documents.py",),
     "headline": ("tools/gate/headline.py", "--check"),
+    "theorem": ("tools/gate/theorem.py", "--check"),
     "declarations": ("tools/bindings/declarations.py",),
     "style": ("tools/gate/style.py",),
     "tools": ("-m", "unittest", "discover", "--start-directory", "tools", "--quiet"),

@@ -62,10 +62,10 @@ class Ends(unittest.TestCase):
 
     def test_all_steps_are_counted_and_nothing_is_called_proved(self):
         status, lines = self.ended()
-        self.assertEqual((status, lines), (0, ["11 passed, 0 failed", quick_check.NOTHING]))
+        self.assertEqual((status, lines), (0, ["12 passed, 0 failed", quick_check.NOTHING]))
 
     def test_what_fails_is_counted(self):
-        self.assertEqual(self.ended(fails=("headline", "tools")), (1, ["9 passed, 2 failed", quick_check.NOTHING]))
+        self.assertEqual(self.ended(fails=("headline", "tools")), (1, ["10 passed, 2 failed", quick_check.NOTHING]))
 
     def test_some_steps_alone(self):
         self.assertEqual(self.ended("headline", "tools"), (0, ["2 passed, 0 failed", quick_check.NOTHING]))
