@@ -95,7 +95,8 @@ typedef struct { uint32_t kind; uint64_t length; uint8_t digest[32]; } hw_planne
 /* What a validator has to make: 0 a proposal, 1 a confirmation, 2 a witness, 3 nothing. Why nothing: 1 the validator is
  * faulty, 2 its last unit allows none now, 3 the last block of the instance is reached, 4 the leader's block isn't
  * there, 5 there is nothing to cite. The round of the moment and its leader; the block that a proposal stands on; and
- * the moment until which nothing else becomes due while the journal stays as it is. */
+ * the moment until which nothing else becomes due while the journal stays as it is: the witness time or the end of the
+ * round, or before that the first later time of a settled unit where that may count. */
 typedef struct {
   uint32_t kind, why, leader, has_parent;
   uint64_t round, next;
