@@ -12,7 +12,6 @@ ghost use Rattle.hw_c.specs.Due.{IsDue, IsDueNow, IsMomentOf, IsViewOf, IsFirstL
 
 use crate::calls::{digest_bytes, flag};
 use crate::codes::Fault;
-use crate::own::{is_earlier, may_not_follow};
 use crate::steps::{plan_number, planned_unit};
 use hw_core::Core;
 use hw_dag::{Dag, Panorama, UnitNo, View};
@@ -22,6 +21,7 @@ use hw_rules::wire_unit;
 use hw_types::{
     Config, Digest, END_OF_TIME, OutOfMemory, Plan, PlanKind, Signature, SignedUnit, WireUnit,
 };
+use hw_validator::{is_earlier, may_not_follow};
 use std::alloc::Global;
 
 /// The kind where nothing is due.
