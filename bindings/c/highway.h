@@ -7,8 +7,8 @@
  * that is more than room, call again with more room. Pointers are never NULL, not even for 0 bytes, and what they
  * point to doesn't overlap. After an error what they point to is as it was; but an hw_answer has the details of
  * the error.
- * Threads. A handle may go to another thread, and one call at a time uses it, also of those that only read. Two
- * handles are two: calls of them may overlap.
+ * Threads. A handle may go to another thread. One call at a time uses it, also of those that only read: a second one
+ * is answered HW_BUSY and changes nothing. Two handles are two: calls of them may overlap.
  * Signals, fork. No call is made from a signal handler, nor from the forked child of a process with threads.
  * A bool is 0 or 1. */
 #ifndef HIGHWAY_H
@@ -23,7 +23,7 @@ extern "C" {
 /* The version of this header: of 1.2.3 the number 0x010203. hw_version() says that of the library. */
 #define HW_VERSION 0x000200
 
-/* A place for a node: null while there is none. */
+/* A place for a node: null while there is none, and no address while a call uses it. */
 typedef struct { void *at; } hw_core;
 
 /* What each call answers. */
@@ -36,6 +36,7 @@ enum {
   HW_FULL = 5,                  /* the handle holds a node already */
   HW_TOO_LONG = 6,              /* longer than its format or its journal allows */
   HW_OTHER_INSTANCE = 7,        /* the two nodes are of different configurations */
+  HW_BUSY = 8,                  /* another call uses the handle now; nothing has changed */
   HW_BAD_BYTES = 0x100,         /* + 0 truncated, 1 trailing, 2 bad tag, 3 too long, 4 out of range; at is the place */
   HW_BAD_CONFIG = 0x200,        /* + 1 .. 9, the limit that is broken; at is the validator without weight */
   HW_BAD_SIGNATURE = 0x300,     /* the verdict was no */
@@ -94,7 +95,8 @@ typedef struct { uint32_t kind; uint64_t length; uint8_t digest[32]; } hw_planne
 /* What a validator has to make: 0 a proposal, 1 a confirmation, 2 a witness, 3 nothing. Why nothing: 1 the validator is
  * faulty, 2 its last unit allows none now, 3 the last block of the instance is reached, 4 the leader's block isn't
  * there, 5 there is nothing to cite. The round of the moment and its leader; the block that a proposal stands on; and
- * the moment until which nothing else becomes due while the journal stays as it is. */
+ * the moment until which nothing else becomes due while the journal stays as it is: the witness time or the end of the
+ * round, or before that the first later time of a settled unit where that may count. */
 typedef struct {
   uint32_t kind, why, leader, has_parent;
   uint64_t round, next;
@@ -157,17 +159,6 @@ uint32_t hw_signed(const uint8_t *vertex, size_t vertex_len, hw_signatures *sign
  * delivered, where answers isn't count. */
 uint32_t hw_deliver(hw_core *core, const uint8_t *bytes, size_t bytes_len, const hw_sent *vertices, size_t count,
                     hw_delivered *delivered, size_t answers);
-
-/* Delivers the one vertex that the bytes are, and answers its status, or HW_EMPTY. */
-static inline uint32_t hw_deliver_one(hw_core *core, const uint8_t *vertex, size_t vertex_len, bool verdict,
-                                      hw_answer *answer) {
-  hw_sent sent = {0, vertex_len, verdict};
-  hw_delivered delivered;
-  uint32_t status = hw_deliver(core, vertex, vertex_len, &sent, 1, &delivered, 1);
-  if (status != HW_OK) return status;
-  *answer = delivered.answer;
-  return delivered.status;
-}
 
 /* ---- what a node has */
 
@@ -256,6 +247,93 @@ uint32_t hw_certified(const uint8_t *certificate, size_t certificate_len, hw_sig
  * than vertices, or one is another number. */
 uint32_t hw_check(const uint8_t *certificate, size_t certificate_len, const uint32_t *verdicts, size_t count,
                   hw_judged *judged, uint8_t *buf, size_t room, hw_answer *answer);
+
+/* ---- one call at a time
+ *
+ * While a call uses a handle, the node is the call's and the handle's word is the mark below. A second call finds the
+ * mark, and answers HW_BUSY. It doesn't wait: its caller asks again. From here on each name is that of the call with
+ * this exchange; the library's own calls, which other languages make, are without it. */
+#define HW_IN_A_CALL ((void *)1)
+
+static inline void *hw_taken(hw_core *core) { return __atomic_exchange_n(&core->at, HW_IN_A_CALL, __ATOMIC_SEQ_CST); }
+static inline void hw_put_back(hw_core *core, void *at) { __atomic_store_n(&core->at, at, __ATOMIC_SEQ_CST); }
+
+#define HW_ALONE(name, parameters, words) \
+  static inline uint32_t name##_alone parameters { \
+    hw_core own = {hw_taken(core)}; \
+    uint32_t status; \
+    if (own.at == HW_IN_A_CALL) return HW_BUSY; \
+    status = name words; \
+    hw_put_back(core, own.at); \
+    return status; \
+  }
+
+HW_ALONE(hw_core_new, (const uint8_t *config, size_t config_len, hw_answer *answer, hw_core *core),
+         (config, config_len, answer, &own))
+HW_ALONE(hw_core_free, (hw_core *core), (&own))
+HW_ALONE(hw_deliver, (hw_core *core, const uint8_t *bytes, size_t bytes_len, const hw_sent *vertices, size_t count,
+                      hw_delivered *delivered, size_t answers),
+         (&own, bytes, bytes_len, vertices, count, delivered, answers))
+HW_ALONE(hw_journal, (hw_core *core, uint64_t place, uint8_t *buf, size_t room, size_t *len),
+         (&own, place, buf, room, len))
+HW_ALONE(hw_summary, (hw_core *core, hw_summary_of *summary), (&own, summary))
+HW_ALONE(hw_observation, (hw_core *core, uint32_t validator, hw_observed *observed), (&own, validator, observed))
+HW_ALONE(hw_faulty, (hw_core *core, uint32_t *list, size_t room, size_t *count), (&own, list, room, count))
+HW_ALONE(hw_place, (hw_core *core, const uint8_t unit[32], hw_placed *placed), (&own, unit, placed))
+HW_ALONE(hw_unit, (hw_core *core, const uint8_t unit[32], hw_unit_facts *facts, hw_observed *list, size_t places,
+                   uint8_t *buf, size_t room), (&own, unit, facts, list, places, buf, room))
+HW_ALONE(hw_spelled_unit, (hw_core *core, const uint8_t *vertex, size_t vertex_len, hw_unit_facts *facts,
+                           hw_observed *list, size_t places, uint8_t *buf, size_t room),
+         (&own, vertex, vertex_len, facts, list, places, buf, room))
+HW_ALONE(hw_decision, (hw_core *core, uint64_t index, hw_decided *decided), (&own, index, decided))
+HW_ALONE(hw_unmet, (hw_core *core, hw_need *list, size_t room, size_t *count), (&own, list, room, count))
+HW_ALONE(hw_for_need, (hw_core *core, const hw_need *need, size_t place, uint8_t *buf, size_t room, size_t *len),
+         (&own, need, place, buf, room, len))
+HW_ALONE(hw_due, (hw_core *core, uint32_t validator, uint64_t now, hw_due_now *due), (&own, validator, now, due))
+HW_ALONE(hw_next_unit, (hw_core *core, uint32_t validator, uint64_t now, const uint8_t *value, size_t value_len,
+                        hw_planned *planned, uint8_t *buf, size_t room),
+         (&own, validator, now, value, value_len, planned, buf, room))
+HW_ALONE(hw_certificate, (hw_core *core, uint64_t index, uint8_t *buf, size_t room, size_t *len),
+         (&own, index, buf, room, len))
+HW_ALONE(hw_audit, (hw_core *left, hw_core *core, hw_audited *audited, uint8_t *buf, size_t room),
+         (left, &own, audited, buf, room))
+static inline uint32_t hw_audit_both(hw_core *core, hw_core *right, hw_audited *audited, uint8_t *buf, size_t room) {
+  hw_core own = {hw_taken(core)};
+  uint32_t status;
+  if (own.at == HW_IN_A_CALL) return HW_BUSY;
+  status = hw_audit_alone(&own, right, audited, buf, room);
+  hw_put_back(core, own.at);
+  return status;
+}
+
+#define hw_core_new hw_core_new_alone
+#define hw_core_free hw_core_free_alone
+#define hw_deliver hw_deliver_alone
+#define hw_journal hw_journal_alone
+#define hw_summary hw_summary_alone
+#define hw_observation hw_observation_alone
+#define hw_faulty hw_faulty_alone
+#define hw_place hw_place_alone
+#define hw_unit hw_unit_alone
+#define hw_spelled_unit hw_spelled_unit_alone
+#define hw_decision hw_decision_alone
+#define hw_unmet hw_unmet_alone
+#define hw_for_need hw_for_need_alone
+#define hw_due hw_due_alone
+#define hw_next_unit hw_next_unit_alone
+#define hw_certificate hw_certificate_alone
+#define hw_audit hw_audit_both
+
+/* Delivers the one vertex that the bytes are, and answers its status, or HW_EMPTY. */
+static inline uint32_t hw_deliver_one(hw_core *core, const uint8_t *vertex, size_t vertex_len, bool verdict,
+                                      hw_answer *answer) {
+  hw_sent sent = {0, vertex_len, verdict};
+  hw_delivered delivered;
+  uint32_t status = hw_deliver(core, vertex, vertex_len, &sent, 1, &delivered, 1);
+  if (status != HW_OK) return status;
+  *answer = delivered.answer;
+  return delivered.status;
+}
 
 #ifdef __cplusplus
 }

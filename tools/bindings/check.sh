@@ -68,14 +68,16 @@ memory="$(dirname "$(rt doc 2>/dev/null)")/c"
 program="$(mktemp -d)"
 trap 'rm -rf "$program"' EXIT
 build() {
-    for name in replay validator; do
-        cc -std=c99 -O2 -Wall -Wextra -Werror -I bindings/c "bindings/c/$name.c" crates/hw_c/out/libhw_c.a \
+    for name in replay validator threads; do
+        cc -std=c99 -O2 -Wall -Wextra -Werror -pthread -I bindings/c "bindings/c/$name.c" crates/hw_c/out/libhw_c.a \
             "$memory/liblibc_c.a" -o "$program/$name" || return
     done
 }
 installed() {
     tools/bindings/install.sh "$program/installed" && "$program/validator"
 }
+# Each call is answered, as done or as busy, and the node stays.
+threads() { "$program/threads" 300000; }
 # The log has four entries.
 million() {
     local said
@@ -99,6 +101,7 @@ if [ -n "$built" ]; then
     if has cc "the program in C"; then
         step "the programs in C" build
         [ -x "$program/validator" ] && step "a validator in C, and the installation" installed
+        [ -x "$program/threads" ] && step "two threads of one handle" threads
         [ -x "$program/replay" ] && step "a million deliveries" million
         [ -x "$program/replay" ] && has valgrind "no leak, no bad access" && step "no leak, no bad access" clean
     fi

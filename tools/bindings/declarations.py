@@ -33,6 +33,8 @@ STRUCTS = {
     "hw_summary_of": "Summary",
     "hw_unit_facts": "UnitFacts",
 }
+# The status that the header answers by itself: no call of the library has it, nor another one its number.
+OF_THE_HEADER = {"BUSY": 8}
 TYPES = {"uint8_t": "u8", "uint32_t": "u32", "uint64_t": "u64", "size_t": "usize", "bool": "bool", **STRUCTS}
 
 
@@ -148,6 +150,13 @@ def calls_of_header(text):
     return {name: [of_c(it) for it in split(body) if it != "void"] for name, body in rows}
 
 
+def ungated(crate, header):
+    """The calls with a handle that the header doesn't keep to one at a time."""
+    gated = {name for name, _ in re.findall(r"^#define (hw_\w+) \1_(alone|both)$", header, re.M)}
+    held = {name for name, kinds in calls_of_crate(crate).items() if "Handle*" in kinds}
+    return [f"highway.h: {name} is made while another call uses the handle" for name in sorted(held - gated)]
+
+
 def differences(what, crate, other, where):
     """What the other text says otherwise than the crate, a line each."""
     names = sorted(it for it in {*crate, *other} if crate.get(it) != other.get(it))
@@ -157,7 +166,9 @@ def differences(what, crate, other, where):
 def compared(crate, rules, header, wrapper, wrapper_rules, script):
     """Where the texts differ, as lines, and how much there is of what. Each text is given whole."""
     statuses, calls, structs = numbers_of(crate), calls_of_crate(crate), structs_of_crate(crate)
-    found = differences("status", statuses, numbers_of_header(header), "highway.h")
+    found = differences("status", {**statuses, **OF_THE_HEADER}, numbers_of_header(header), "highway.h")
+    taken = sorted(name for name, number in statuses.items() if number in OF_THE_HEADER.values())
+    found += [f"the crate: status {name} has a number of the header's own" for name in taken]
     found += differences("status", statuses, numbers_of(wrapper), "bindings/rust")
     found += differences("rule", rules_of_crate(rules), rules_of_wrapper(wrapper_rules), "bindings/rust")
     found += differences("rule", rule_texts_of_wrapper(wrapper_rules), rule_texts_of_script(script), "bindings/js")
@@ -165,6 +176,7 @@ def compared(crate, rules, header, wrapper, wrapper_rules, script):
     found += differences("struct", structs, structs_of_wrapper(wrapper), "bindings/rust")
     found += differences("call", calls, calls_of_header(header), "highway.h")
     found += differences("call", calls, calls_of_wrapper(wrapper), "bindings/rust")
+    found += ungated(crate, header)
     counts = {"statuses": statuses, "rules": rules_of_crate(rules), "structs": structs, "calls": calls}
     return found, {what: len(it) for what, it in counts.items()}
 

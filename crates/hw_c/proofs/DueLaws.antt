@@ -1,5 +1,5 @@
 -- Until the next moment a step stays what it is.
-use Rattle.std.proofs.Common.{◌≡◌, ℕ, ◌+◌, ◌*◌, ◌-◌, ◌/◌, ◌^◌, ◌<◌, ◌≤◌, inl, inr, Bool, true, false, cond, not, List, [], ◌∷◌, length, Option, Some, None, refl, sym, ap, subst, ◌∙◌, arith, div-mul-le_self}
+use Rattle.std.proofs.Common.{◌≡◌, ◌⊎◌, ℕ, ◌+◌, ◌*◌, ◌-◌, ◌/◌, ◌^◌, ◌<◌, ◌≤◌, inl, inr, Bool, true, false, cond, not, List, [], ◌∷◌, length, Option, Some, None, refl, sym, ap, subst, ◌∙◌, arith, div-mul-le_self}
 use Rattle.std.specs.Prelude.{◌&&◌, ◌||◌, ◌==◌, nat_lt, nat_le, max, fold, filter, if◌then◌else◌}
 use Rattle.std.specs.List.{list_any}
 use Rattle.std.proofs.lemmas.Bool.{cases_lt, lt-ltb, le-leb, le-ltb}
@@ -22,9 +22,9 @@ use Rattle.hw_types.proofs.ClosureLaws.{Among-filter}
 use Rattle.hw_types.proofs.StableLaws.{all_same}
 use Rattle.hw_types.proofs.WordsLaws.{find_node_is}
 use Rattle.hw_dag.specs.declared.numbers.View.{View}
-use Rattle.hw_dag.specs.Dag.{UnitGraph, graph, view_at, obs_of, observations, IsPanorama}
+use Rattle.hw_dag.specs.Dag.{UnitGraph, graph, node_at, view_at, obs_of, observations, IsPanorama}
 use Rattle.hw_dag.specs.Admission.{IsGraph}
-use Rattle.hw_dag.proofs.NodeLaws.{among_node}
+use Rattle.hw_dag.proofs.NodeLaws.{among_node, node_among}
 use Rattle.hw_dag.proofs.SlotLaws.{slot_of}
 use Rattle.hw_validator.specs.Choice.{node_seen}
 use Rattle.hw_validator.specs.Step.{is_for_nothing, time_of}
@@ -33,7 +33,7 @@ use Rattle.hw_validator.proofs.NodeStepLaws.{for_nothing, node_stopped, node_kin
 use Rattle.hw_validator.proofs.RisingLaws.{not_le}
 use Rattle.hw_validator.proofs.StepLaws.{time_in_round}
 use Rattle.hw_c.specs.declared.due.Moment.{Moment}
-use Rattle.hw_c.specs.Due.{kind_of, end_of, part_of, IsFree, IsNext, IsMomentOf, IsViewOf, why_by, is_held_by, why_over, why_in}
+use Rattle.hw_c.specs.Due.{kind_of, round_in, is_early, leads_in, own_in, has_spoken, awaits_leader, end_in, end_of, part_of, IsFree, IsTime, IsNext, IsLeast, MayTurn, IsMomentOf, IsViewOf, why_by, is_held_by, why_over, why_in}
 use Rattle.hw_c.specs.Steps.{step_in as step_of_core}
 
 -- ---- numbers
@@ -320,6 +320,67 @@ module _ (core : CoreState) (dag : UnitGraph) (config : Config) (seen : List Vie
       sym (seen_is dag of.graph_is (view_at seen v) (λ number e. of.panorama_is.known v number e))
       ∙ ap (λ (us : List Node). observed us (obs_of dag (view_at seen v))) of.settled
       ∙ ap (observed (settled_in core)) (slot_is v)
+
+  -- ---- the next moment is the first at which another answer is possible
+
+  abbrev idle_by : ℕ → ℕ → Config → Option Node → Option Node → Bool
+  idle_by me now k own lead =
+      let round = round_id now k.min_exponent in
+      let witness = witness_time round k.min_exponent in
+      if nat_lt now witness then not (is_earlier own round) || (not (me == leader_of k round) && is_earlier lead round) else not (is_earlier own witness)
+
+  nothing_is : (me now : ℕ) → is_for_nothing dag config seen me now ≡ (has_spoken core me now || awaits_leader core me now)
+  nothing_is me now =
+      ap (λ (p : Option Node). idle_by me now config p (node_seen dag (view_at seen (leader_of config (round_id now config.min_exponent))))) (last_is me)
+      ∙ ap (λ (p : Option Node). idle_by me now config (own_in core me) p) (last_is (leader_of config (round_id now config.min_exponent)))
+      ∙ ap (λ (k : Config). idle_by me now k (own_in core me) (own_in core (leader_of k (round_id now k.min_exponent)))) of.config_is
+      ∙ go (is_early core now)
+    where
+      or_none : (b : Bool) → b ≡ (b || false)
+      or_none true = refl
+      or_none false = refl
+
+      round : ℕ
+      round = round_in core now
+
+      witness : ℕ
+      witness = witness_time round core.config.min_exponent
+
+      lead : Bool
+      lead = is_earlier (own_in core (leader_of core.config round)) round
+
+      go : (early : Bool) → cond early (not (is_earlier (own_in core me) round) || (not (leads_in core me now) && lead)) (not (is_earlier (own_in core me) witness))
+          ≡ (not (is_earlier (own_in core me) (cond early round witness)) || (early && not (leads_in core me now) && lead))
+      go true = refl
+      go false = or_none (not (is_earlier (own_in core me) witness))
+
+  end_is : (now : ℕ) → end_of config now ≡ end_in core now
+  end_is now = ap (λ (k : Config). end_of k now) of.config_is
+
+  pub first_turn : (me now next : ℕ) → IsNext dag config seen me now next → IsLeast (MayTurn core me now) next
+  first_turn me now next n = (turns n.is, least)
+    where
+      turns : (next ≡ end_of config now) ⊎ ((is_for_nothing dag config seen me now ≡ false) × IsTime dag next) → MayTurn core me now next
+      turns (inl end) = inl (end ∙ end_is now)
+      turns (inr (some, time)) = inr (
+        sym (nothing_is me now) ∙ some,
+        (node_at dag time.0, subst (λ (us : List Node). Among (node_at dag time.0) us) of.settled (node_among dag of.graph_is time.0 time.1), subst (λ (t : ℕ). now < t) (sym time.2) n.later, time.2),
+      )
+
+      free_unit : IsFree dag now next → (u : Node) → Among u (graph dag) → now < u.unit.time → next ≤ u.unit.time
+      free_unit free u there =
+          let k = among_node dag u there in
+          subst (λ (y : Node). now < y.unit.time → next ≤ y.unit.time) k.2 (free k.0 k.1)
+
+      within : (is_for_nothing dag config seen me now ≡ false) → (is_for_nothing dag config seen me now ≡ true) ⊎ IsFree dag now next → IsFree dag now next
+      within some (inl none) = absurd (cc (sym none ∙ some))
+      within some (inr free) = free
+
+      least : (m : ℕ) → MayTurn core me now m → next ≤ m
+      least m (inl end) = let same = end_is now in let inside = n.within in omega arith
+      least m (inr (some, (u, there, later, is))) =
+          let free = free_unit (within (nothing_is me now ∙ some) n.quiet) u (subst (λ (us : List Node). Among u us) (sym of.settled) there) later in
+          omega arith
 
   module _ (me now : ℕ) where
     abbrev leads : Config → Bool

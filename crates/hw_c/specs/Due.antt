@@ -1,6 +1,6 @@
 -- What a validator has to make at a moment, and until when that stays so.
 -- Source: ours.
-use Rattle.std.specs.Prelude.{◌≡◌, ◌⊎◌, ℕ, ◌+◌, ◌^◌, ◌<◌, ◌≤◌, Bool, true, ◌&&◌, ◌||◌, not, nat_lt, ◌==◌, List, [], length, Option, Some, None, is_some, Result, Ok, Err, if◌then◌else◌}
+use Rattle.std.specs.Prelude.{◌≡◌, ◌⊎◌, ℕ, ◌+◌, ◌^◌, ◌<◌, ◌≤◌, Bool, true, false, ◌&&◌, ◌||◌, not, nat_lt, ◌==◌, List, [], length, Option, Some, None, is_some, Result, Ok, Err, if◌then◌else◌}
 use Rattle.std.specs.Option.{option_map}
 use Rattle.hw_types.specs.declared.answers.Plan.{Plan}
 use Rattle.hw_types.specs.declared.answers.PlanKind.TheVariants.{Propose, Confirm, Witness}
@@ -8,6 +8,7 @@ use Rattle.hw_types.specs.declared.config.Config.{Config}
 use Rattle.hw_types.specs.declared.unit.Digest.{Digest}
 use Rattle.hw_types.specs.declared.unit.Obs.{Obs}
 use Rattle.hw_types.specs.declared.unit.WireUnit.{WireUnit}
+use Rattle.hw_types.specs.Below.{Among}
 use Rattle.hw_types.specs.Graph.{Node, latest, slot, is_faulty_mark}
 use Rattle.hw_types.specs.Real.{CoreState, settled_in, panorama_in}
 use Rattle.hw_types.specs.Rounds.{round_id, witness_time, leader_of}
@@ -43,6 +44,10 @@ round_in c now = round_id now c.config.min_exponent
 abbrev pub is_early : CoreState → ℕ → Bool
 is_early c now = nat_lt now (witness_time (round_in c now) c.config.min_exponent)
 
+-- when this part of the round ends: at its witness time, or with the round
+abbrev pub end_in : CoreState → ℕ → ℕ
+end_in c now = if is_early c now then witness_time (round_in c now) c.config.min_exponent else round_in c now + 2 ^ c.config.min_exponent
+
 -- when this part of the round began: the round itself, or its witness time
 abbrev pub part_in : CoreState → ℕ → ℕ
 part_in c now = if is_early c now then round_in c now else witness_time (round_in c now) c.config.min_exponent
@@ -59,9 +64,17 @@ time_in c me now = if leads_in c me now && is_early c now then round_in c now el
 abbrev pub own_in : CoreState → ℕ → Option Node
 own_in c me = latest (settled_in c) (panorama_in c) me
 
+-- that unit is in this part of the round, or later
+abbrev pub has_spoken : CoreState → ℕ → ℕ → Bool
+has_spoken c me now = not (is_earlier (own_in c me) (part_in c now))
+
+-- before the witness time another validator leads, and has no unit in the round
+abbrev pub awaits_leader : CoreState → ℕ → ℕ → Bool
+awaits_leader c me now = is_early c now && not (leads_in c me now) && is_earlier (own_in c (leader_of c.config (round_in c now))) (round_in c now)
+
 -- its last unit is in this part of the round or later, or allows none to follow it now
 abbrev pub is_held : CoreState → ℕ → ℕ → Bool
-is_held c me now = not (is_earlier (own_in c me) (part_in c now)) || may_not_step (settled_in c) (slot (panorama_in c) me) (own_in c me) (time_in c me now) (round_in c now) c.config.min_exponent
+is_held c me now = has_spoken c me now || may_not_step (settled_in c) (slot (panorama_in c) me) (own_in c me) (time_in c me now) (round_in c now) c.config.min_exponent
 
 -- Why nothing is due: 1 the validator is faulty, 2 its last unit allows none now, 3 the last block of the instance is
 -- reached, 4 the leader's block isn't there, 5 there is nothing to cite.
@@ -82,10 +95,22 @@ abbrev pub proposal_parent : CoreState → Option Plan → Option Node
 proposal_parent c None = None
 proposal_parent c (Some p) = elim p.kind [ Propose ↦ parent_over c p | Confirm ↦ None | Witness ↦ None ]
 
+-- At this moment another answer is possible: the part of the round ends; or a settled unit's time comes, so that it may
+-- be cited, while the validator has not spoken and awaits no leader.
+abbrev pub MayTurn : CoreState → ℕ → ℕ → ℕ → Type 0
+MayTurn c me now t = (t ≡ end_in c now)
+    ⊎ ((has_spoken c me now || awaits_leader c me now ≡ false) × ((u : Node) × Among u (settled_in c) × (now < u.unit.time) × (u.unit.time ≡ t)))
+
+-- the least number of which this is so
+abbrev pub IsLeast : (ℕ → Type 0) → ℕ → Type 0
+IsLeast Holds n = Holds n × ((m : ℕ) → Holds m → n ≤ m)
+
 -- What is due. The value counts for nothing. Until the next moment the same is due, while the journal stays as it is.
+-- The next moment is the first at which another answer is possible.
 pub record IsDueNow (c : CoreState) (me now : ℕ) (d : Due) : Type 0 where
   pub same : (value : List ℕ) (t : ℕ) → now ≤ t → t < d.next → kind_of (step_in c me t value) ≡ d.kind
   pub later : now < d.next
+  pub next_is : IsLeast (MayTurn c me now) d.next
   pub why_is : d.why ≡ (if d.kind == 3 then why_in c me now else 0)
   pub round_is : d.round ≡ round_in c now
   pub leader_is : d.leader ≡ leader_of c.config d.round
@@ -133,18 +158,24 @@ part_of config now =
 abbrev pub IsFree : UnitGraph → ℕ → ℕ → Type 0
 IsFree dag now next = (n : ℕ) → n < count_of dag → now < (unit_at dag n).signed.unit.time → next ≤ (unit_at dag n).signed.unit.time
 
+-- it is the time of a settled unit
+abbrev pub IsTime : UnitGraph → ℕ → Type 0
+IsTime dag t = (n : ℕ) × (n < count_of dag) × ((unit_at dag n).signed.unit.time ≡ t)
+
 -- of those the first, or the end where none is before that
 pub record IsFirstLater (dag : UnitGraph) (now end first : ℕ) : Type 0 where
   pub later : now < first
   pub within : first ≤ end
   pub free : IsFree dag now first
+  pub is : (first ≡ end) ⊎ IsTime dag first
 
 -- The next moment lies in the same part of the round or ends it. Until then a unit is for nothing, whatever it
--- observes, or no settled unit's time goes by.
+-- observes, or no settled unit's time goes by. Where it doesn't end the part, it is the time of such a unit.
 pub record IsNext (dag : UnitGraph) (config : Config) (seen : List View) (me now next : ℕ) : Type 0 where
   pub later : now < next
   pub within : next ≤ end_of config now
   pub quiet : (is_for_nothing dag config seen me now ≡ true) ⊎ IsFree dag now next
+  pub is : (next ≡ end_of config now) ⊎ ((is_for_nothing dag config seen me now ≡ false) × IsTime dag next)
 
 -- why nothing is due: the validator is faulty; its last unit allows none; what else, by the part of the round and the leader
 abbrev pub why_by : Bool → Bool → Bool → Bool → ℕ

@@ -1,6 +1,6 @@
 //! When a validator has to act, and what for.
 
-ghost use Rattle.std.specs.Prelude.{◌≡◌, ℕ, ◌+◌, ◌^◌, ◌<◌, ◌≤◌, ◌&&◌, ◌||◌, not, nat_lt, ◌==◌, length, None, IfOk, IfSome, if◌then◌else◌};
+ghost use Rattle.std.specs.Prelude.{◌≡◌, ◌⊎◌, ℕ, ◌+◌, ◌^◌, ◌<◌, ◌≤◌, ◌&&◌, ◌||◌, not, nat_lt, ◌==◌, length, None, IfOk, IfSome, if◌then◌else◌};
 ghost use Rattle.hw_types.specs.Graph.{is_faulty_mark};
 ghost use Rattle.hw_types.specs.Limits.{config_fault};
 ghost use Rattle.hw_dag.specs.Dag.{UnitGraph, count_of, obs_of, IsPanorama};
@@ -12,7 +12,6 @@ ghost use Rattle.hw_c.specs.Due.{IsDue, IsDueNow, IsMomentOf, IsViewOf, IsFirstL
 
 use crate::calls::{digest_bytes, flag};
 use crate::codes::Fault;
-use crate::own::{is_earlier, may_not_follow};
 use crate::steps::{plan_number, planned_unit};
 use hw_core::Core;
 use hw_dag::{Dag, Panorama, UnitNo, View};
@@ -22,6 +21,7 @@ use hw_rules::wire_unit;
 use hw_types::{
     Config, Digest, END_OF_TIME, OutOfMemory, Plan, PlanKind, Signature, SignedUnit, WireUnit,
 };
+use hw_validator::{is_earlier, may_not_follow};
 use std::alloc::Global;
 
 /// The kind where nothing is due.
@@ -42,7 +42,8 @@ pub struct Due {
     pub has_parent: u32,
     /// When the round begins, in milliseconds.
     pub round: u64,
-    /// Until this moment nothing else becomes due while the journal stays as it is, in milliseconds.
+    /// Until this moment nothing else becomes due while the journal stays as it is, in milliseconds. It is the end of
+    /// this part of the round, or before that the first time of a settled unit where that may count.
     pub next: u64,
     /// The block that a proposal would stand on, where it has one; else zeros.
     pub parent: [u8; 32],
@@ -201,6 +202,7 @@ fn sooner(now: u64, time: u64, first: u64) -> u64
     ensures later { now < first → now < result }
     ensures within { result ≤ first }
     ensures free { now < time → result ≤ time }
+    ensures is { (result ≡ first) ⊎ (result ≡ time) }
 {
     if now < time && time < first {
         time

@@ -47,7 +47,6 @@ mod held;
 mod light;
 mod names;
 mod needs;
-mod own;
 mod put;
 mod sent;
 mod settings;

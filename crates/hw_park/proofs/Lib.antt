@@ -12,3 +12,4 @@ pub mod StartLaws
 pub mod ParkLaws
 pub mod FirstLaws
 pub mod PlacedLaws
+pub mod FoundLaws

@@ -112,6 +112,10 @@ impl<T: Drop> Waiters<T> {
     {
         let mut filled = 0;
         for place in self.places.values() {
+            // Once each need of the table is in the list, no item has another.
+            if filled == waits.len() {
+                return filled;
+            }
             if let Some(waiter) = self.items.get(*place) {
                 filled = put_left(list, filled, waits, *place, waiter.needs.as_slice());
             }

@@ -71,6 +71,7 @@ class Steps(unittest.TestCase):
                 "Ed25519 beside the vertices",
                 "the programs in C",
                 "a validator in C, and the installation",
+                "two threads of one handle",
                 "a million deliveries",
                 "no leak, no bad access",
                 "the numbers in all texts",

@@ -31,6 +31,14 @@ class Compared(unittest.TestCase):
         (row,) = self.found(header=self.swapped(HEADER, "  HW_CLASH = 0x320,", "  "))
         self.assertIn("status CLASH: None", row)
 
+    def test_a_status_with_the_number_of_the_headers_own(self):
+        rows = self.found(crate=CRATE + "\npub const CALLED: u32 = 8;\n")
+        self.assertIn("the crate: status CALLED has a number of the header's own", rows)
+
+    def test_a_call_that_may_overlap_another(self):
+        (row,) = self.found(header=self.swapped(HEADER, "#define hw_due hw_due_alone\n", ""))
+        self.assertIn("hw_due is made while another call uses the handle", row)
+
     def test_a_rule(self):
         row, *_ = self.found(wrapper_rules=self.swapped(WRAPPER_RULES, "Naive = 18", "Naive = 17"))
         self.assertIn("bindings/rust: rule Naive: 17", row)
@@ -51,9 +59,8 @@ class Compared(unittest.TestCase):
         self.assertEqual([it.split(":")[0] for it in rows], ["highway.h", "bindings/rust"])
 
     def test_two_parameters_exchanged(self):
-        text = self.swapped(
-            HEADER, "uint32_t validator, uint64_t now, const", "uint64_t now, uint32_t validator, const"
-        )
+        begin, old = "uint32_t hw_next_unit(hw_core *core, ", "uint32_t validator, uint64_t now, const"
+        text = self.swapped(HEADER, begin + old, begin + "uint64_t now, uint32_t validator, const")
         self.assertIn("call hw_next_unit", self.found(header=text)[0])
 
     def test_a_pointer_that_may_be_written(self):

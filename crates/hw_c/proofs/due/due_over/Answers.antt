@@ -8,7 +8,7 @@ use Rattle.hw_validator.proofs.NodeStepLaws.{small_exponent}
 use Rattle.hw_c.specs.Answers.{flag, digest_bytes}
 use Rattle.hw_c.specs.Due.{kind_of, name_of, proposal_parent}
 use Rattle.hw_c.specs.Steps.{step_in}
-use Rattle.hw_c.proofs.DueLaws.{due_stays, why_is}
+use Rattle.hw_c.proofs.DueLaws.{due_stays, first_turn, why_is}
 use Rattle.hw_c.proofs.DuePlans.{plan_fits_if, proposed_is, some_named}
 use Rattle.hw_c.proofs.due.due_over.Goals as goal
 
@@ -46,6 +46,7 @@ returns c =
     record {
       same = λ value t after before. due_stays core c.args.dag.now config c.args.observed.now of c.args.me m.at c.next_moment.result c.next_moment.ensures [] value t after before ∙ sym kind;
       later = c.next_moment.ensures.later;
+      next_is = first_turn core c.args.dag.now config c.args.observed.now of c.args.me m.at c.next_moment.result c.next_moment.ensures;
       why_is = c.why_of.ensures ∙ ap (λ (w : ℕ). if c.kind_of-kind.result == 3 then w else 0) (why_is core c.args.dag.now config c.args.observed.now of c.args.me m.at);
       round_is = round;
       leader_is = c.requires.moment.leader_is ∙ ap (λ (k : Config). leader_of k m.round) of.config_is;

@@ -16,6 +16,7 @@ returns-then-is_for_nothing c =
       later = moment_ends_later c.args.config.now m c.requires.moment c.end-end.result c.end-end.ensures;
       within = omega (arith, ends);
       quiet = inl (sym c.is_for_nothing.ensures ∙ c.if-is_for_nothing.true);
+      is = inl ends;
     }
 
 pub returns-else-is_for_nothing : goal.returns-else-is_for_nothing
@@ -27,4 +28,5 @@ returns-else-is_for_nothing c =
       later = c.first_later.ensures.later;
       within = omega (arith, ends);
       quiet = inr c.first_later.ensures.free;
+      is = elim c.first_later.ensures.is [ inl end ↦ inl (end ∙ ends) | inr time ↦ inr (sym c.is_for_nothing.ensures ∙ c.if-is_for_nothing.false, time) ];
     }
