@@ -69,6 +69,8 @@ GROWTH = {
     "equivocations": ("equivocations --validators 10 --units {}", (2000, 8000, 32000)),
     "stale": ("stale --validators 100 --rounds {}", (100, 400, 1600)),
     "swing": ("swing --validators 10 --rounds {}", (500, 2000, 8000)),
+    "falls": ("falls --validators 64 --rounds {}", (3, 12, 48)),
+    "falls by validators": ("falls --rounds 3 --validators {}", (32, 128, 512)),
 }
 
 

@@ -34,7 +34,7 @@ class Config:
     weights: tuple = ()
     threshold: int = -1
     leaders: tuple = ()
-    records: int = 131072
+    records: int = 0
     parked: int = 16384
 
     def spelling(self):
@@ -50,7 +50,7 @@ class Config:
             bytes([3, EXPONENT, 20, 0]),
             big_endian(len(leaders), 4),
             *(big_endian(leader, 4) for leader in leaders),
-            big_endian(self.records, 4),
+            big_endian(self.records or (131072 if self.validators <= 256 else 32768), 4),
             big_endian(self.parked, 4),
         ]
         return b"".join(words)
@@ -365,10 +365,42 @@ def swing(options):
     return config, vertices
 
 
+def falls(options):
+    """Committees whose members fall one by one: each latest unit sees just a quorum, and the last of a chain one less."""
+    config = Config(options.validators, threshold=0)
+    spell, base, leader = Spelling(config), options.validators // 2, 1
+    block = spell.unit(leader, 0, ROUND, spell.nothing(), b"v" * 8)
+    panorama = spell.nothing()
+    panorama[leader] = block.name
+    firsts = [spell.unit(creator, 0, ROUND + 50 + creator, panorama) for creator in range(options.validators)]
+    firsts[leader] = block
+    latest, units = [unit.name for unit in firsts], [block, *(unit for unit in firsts if unit is not block)]
+    for number in range(1, options.rounds + 1):
+        for creator in range(options.validators):
+            panorama = spell.nothing()
+            for seen in seen_in_chain(creator, base, leader, options.validators):
+                panorama[seen] = firsts[seen].name
+            panorama[creator] = latest[creator]
+            unit = spell.unit(creator, number, number * ROUND + 2 * ROUND // 3 + creator, panorama)
+            latest[creator] = unit.name
+            units.append(unit)
+    return config, [of_unit(unit) for unit in units]
+
+
+def seen_in_chain(creator, base, leader, validators):
+    """Whose first units one of a chain sees. Those of the base see each other and the first behind it; each of the others
+    sees the next one, and of the base so many that it sees a quorum with it."""
+    if creator < base:
+        return [*range(base), base]
+    some = [other for other in range(base) if other != leader][: base - 2]
+    return [*some, leader, creator, *range(creator + 1, min(creator + 2, validators))]
+
+
 KINDS = {
-    kind.__name__: kind for kind in (rounds, lane, solo, fan, needs, missing, endorsements, equivocations, stale, swing)
+    kind.__name__: kind
+    for kind in (rounds, lane, solo, fan, needs, missing, endorsements, equivocations, stale, swing, falls)
 }
-IN_ROUNDS = {"rounds", "stale", "swing"}
+IN_ROUNDS = {"rounds", "stale", "swing", "falls"}
 IN_ANY_ORDER = {"rounds", "lane", "solo"}
 
 
@@ -429,7 +461,7 @@ def options_of(words):
     """What the words ask for. Words that aren't understood end the program with status 2."""
     parser = parser_of_words()
     options = parser.parse_args(words)
-    least = 2 if options.kind in ("fan", "needs", "swing") else 1
+    least = {"fan": 2, "needs": 2, "swing": 2, "falls": 6}.get(options.kind, 1)
     if not least <= options.validators <= 1024:
         parser.error(f"argument --validators: {options.kind} is of {least} to 1,024 validators")
     for name in ("silent", "equivocators", "second_lanes"):

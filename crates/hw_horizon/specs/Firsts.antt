@@ -35,15 +35,16 @@ weight_amid weights dag old new moved n = weight_of weights (λ v. is_after (fir
 abbrev pub has_quorum : List ℕ → UnitGraph → ℕ → List ℕ → ℕ → Bool
 has_quorum weights dag quorum firsts n = nat_le quorum (weight_after weights dag firsts n)
 
--- the unit sees no more than this weight, and no less but for those who fell, who weigh so much
-pub record IsNear (weights : List ℕ) (dag : UnitGraph) (firsts : List ℕ) (n seen fallen : ℕ) : Type 0 where
-  pub most : weight_after weights dag firsts n ≤ seen
-  pub less : seen ≤ weight_after weights dag firsts n + fallen
+-- the slot's unit observes of the validator that unit or one of a greater number
+abbrev pub does_see : UnitGraph → View → ℕ → ℕ → Bool
+does_see dag view.Absent v first = false
+does_see dag (view.Correct tip) v first = is_after first (view_at (unit_at dag tip.0).panorama v)
+does_see dag view.Faulty v first = false
 
--- a weight for each validator: what its latest unit saw before those fell who weigh so much
-pub record AreSeen (weights : List ℕ) (dag : UnitGraph) (panorama : List View) (firsts seen : List ℕ) (fallen : ℕ) : Type 0 where
+-- a weight for each validator: of those present, what its latest unit sees
+pub record AreSeen (weights : List ℕ) (dag : UnitGraph) (panorama : List View) (present : Starts) (firsts seen : List ℕ) : Type 0 where
   pub long : length seen ≡ dag.validators
-  pub each : (v : ℕ) (tip : UnitNo) → view_at panorama v ≡ view.Correct tip → IsNear weights dag firsts tip.0 (slice_index_or seen v 0) fallen
+  pub each : (v : ℕ) (tip : UnitNo) → is_some (entry present v) ≡ true → view_at panorama v ≡ view.Correct tip → weight_after weights dag firsts tip.0 ≡ slice_index_or seen v 0
 
 -- the units of the slot's lane from that number on are those from the first unit on
 abbrev pub IsLaneFrom : UnitGraph → View → ℕ → ℕ → Type 0

@@ -39,6 +39,7 @@ pub record IsScratch (validators : ℕ) (scratch : Scratch) : Type 0 where
   pub present : length scratch.present ≡ validators
   pub next : length scratch.next ≡ validators
   pub firsts : length scratch.firsts ≡ validators
+  pub counts : length scratch.counts ≡ validators
 
 -- the level is one of these, where there is one
 abbrev pub IsWithin : ℕ → Option ℕ → Type 0

@@ -10,6 +10,7 @@ ghost use Rattle.hw_horizon.specs.Starts.{HasSlots};
 ghost use Rattle.hw_horizon.specs.Search.{table_of, start_of, committees_of, AreTables, IsScratch};
 
 use crate::bounds::Bounds;
+use crate::counts::Counts;
 use crate::firsts::Firsts;
 use crate::kept::Walks;
 use crate::question::Question;
@@ -33,13 +34,14 @@ pub struct Horizons {
 }
 
 // What one search works on: the table of the level below, of the level that is pruned, the next one of
-// it, and the first units of those present.
+// it, the first units of those present, and what the latest unit of each sees of them.
 #[derive(Drop)]
 struct Scratch {
     lower: Table,
     present: Table,
     next: Table,
     firsts: Firsts,
+    counts: Counts,
 }
 
 impl Scratch {
@@ -51,11 +53,13 @@ impl Scratch {
         let present = Table::new(alloc, validators)?;
         let next = Table::new(alloc, validators)?;
         let firsts = Firsts::new(alloc, validators)?;
+        let counts = Counts::new(alloc, validators)?;
         Ok(Scratch {
             lower,
             present,
             next,
             firsts,
+            counts,
         })
     }
 }
@@ -228,8 +232,9 @@ fn put_tables(
             present,
             next,
             firsts,
+            counts,
         } = scratch;
-        prune(question, lower, present, next, firsts, None);
+        prune(question, lower, present, next, firsts, counts, None);
         lower.copy_from(present);
         tables[below + 1].copy_from(lower);
     }
@@ -262,10 +267,11 @@ fn has_member(
         lower,
         present,
         firsts,
+        counts,
         ..
     } = scratch;
     let bound = bounds.level(level - 1);
-    put_members(question, lower, present, firsts, bound);
+    put_members(question, lower, present, firsts, counts, bound);
     present.has_member()
 }
 
@@ -301,9 +307,10 @@ fn put_lower(
             present,
             next,
             firsts,
+            counts,
         } = scratch;
         let bound = bounds.level(below);
-        prune(question, lower, present, next, firsts, bound);
+        prune(question, lower, present, next, firsts, counts, bound);
         lower.copy_from(present);
     }
 }

@@ -25,6 +25,7 @@
 #![tactic(auto)]
 
 mod bounds;
+mod counts;
 mod detector;
 mod detector_laws;
 mod edges;

@@ -1,8 +1,8 @@
 //! From where on a lane sees a quorum of those who are present.
 
-ghost use Rattle.std.specs.Prelude.{◌≡◌, ◌<◌, ◌&&◌, length, nat_le, IfSome};
-ghost use Rattle.hw_dag.specs.{Dag.{count_of, unit_at, seq_of}, Admission.{IsGraph}, Lanes.{AreWeights}};
-ghost use Rattle.hw_horizon.specs.{Starts.{IsStart, IsSuffix}, Firsts.{is_after, weight_after, has_quorum as has_quorum_lem, IsNear}};
+ghost use Rattle.std.specs.Prelude.{◌≡◌, ◌<◌, length};
+ghost use Rattle.hw_dag.specs.{Dag.{count_of}, Admission.{IsGraph}, Lanes.{AreWeights}};
+ghost use Rattle.hw_horizon.specs.{Starts.{IsStart, IsSuffix}, Firsts.{is_after, weight_after, has_quorum as has_quorum_lem}};
 
 use crate::firsts::Firsts;
 use crate::question::Question;
@@ -41,48 +41,6 @@ pub fn quorum_start(
         return None;
     }
     Some(low)
-}
-
-/// Whether there is such a number: the latest unit has one not below the floor, and sees a quorum. `seen`
-/// is what it saw, where that is known, before those fell who weigh `fallen`.
-pub fn has_start(
-    question: &Question<'_>,
-    tip: UnitNo,
-    floor: u64,
-    firsts: &Firsts,
-    seen: Option<u64>,
-    fallen: u64,
-) -> bool
-    requires firsts { length firsts.now ≡ question.now.dag.now.validators }
-    requires known { tip.0 < count_of question.now.dag.now }
-    requires near { IfSome seen (λ seen. IsNear question.now.weights.now question.now.dag.now firsts.now tip.0 seen fallen) }
-    ensures { result ≡ (nat_le floor (seq_of (unit_at question.now.dag.now tip.0)) && has_quorum_lem question.now.weights.now question.now.dag.now question.now.quorum firsts.now tip.0) }
-{
-    floor <= question.dag.unit(tip).signed().unit.seq
-        && still_has_quorum(question, tip, firsts, seen, fallen)
-}
-
-// Whether the unit sees a quorum of those present. They are looked at only where what it saw before doesn't
-// tell.
-fn still_has_quorum(
-    question: &Question<'_>,
-    no: UnitNo,
-    firsts: &Firsts,
-    seen: Option<u64>,
-    fallen: u64,
-) -> bool
-    requires firsts { length firsts.now ≡ question.now.dag.now.validators }
-    requires known { no.0 < count_of question.now.dag.now }
-    requires near { IfSome seen (λ seen. IsNear question.now.weights.now question.now.dag.now firsts.now no.0 seen fallen) }
-    ensures { result ≡ has_quorum_lem question.now.weights.now question.now.dag.now question.now.quorum firsts.now no.0 }
-{
-    let Some(seen) = seen else {
-        return has_quorum(question, no, firsts);
-    };
-    if seen < question.quorum {
-        return false;
-    }
-    fallen <= seen - question.quorum || has_quorum(question, no, firsts)
 }
 
 /// Whether the unit sees a quorum of those present.

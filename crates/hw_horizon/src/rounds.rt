@@ -1,18 +1,18 @@
 //! One level out of the level below it: members fall until no more do.
 
-ghost use Rattle.std.specs.Prelude.{◌≡◌, ℕ, suc, ◌+◌, ◌-◌, ◌<◌, ◌≤◌, List, length, true, None, is_some, slice_index_or, IsTrue, IfSome, if◌then◌else◌};
-ghost use Rattle.std.specs.Option.{option_map};
+ghost use Rattle.std.specs.Prelude.{◌≡◌, ℕ, suc, ◌+◌, ◌<◌, ◌≤◌, length, true, None, is_some, IsTrue, IfSome, if◌then◌else◌};
 ghost use Rattle.hw_types.specs.{Votes.{weight_of}, Graph.{is_consistent}};
-ghost use Rattle.hw_dag.specs.{Dag.{UnitGraph, graph, observations, count_of}, declared.numbers.View.{View as Slot}, Admission.{IsGraph}, Lanes.{AreWeights}};
+ghost use Rattle.hw_dag.specs.{Dag.{graph, observations}, Admission.{IsGraph}, Lanes.{AreWeights}};
 ghost use Rattle.hw_horizon.specs.Tables.{Starts, entry, is_member, start_over, next_table, table_after, SameMembers, AreAmong};
 ghost use Rattle.hw_horizon.specs.Starts.{HasSlots};
-ghost use Rattle.hw_horizon.specs.Firsts.{AreFirsts, AreSeen, IsNear, weight_after};
+ghost use Rattle.hw_horizon.specs.Firsts.{AreFirsts, AreSeen};
 ghost use Rattle.hw_horizon.specs.Bounds.{IsExact};
 
 use crate::bounds::Bound;
+use crate::counts::Counts;
 use crate::firsts::{Firsts, NO_UNIT};
 use crate::question::Question;
-use crate::quorums::{has_start, quorum_start};
+use crate::quorums::quorum_start;
 use crate::table::Table;
 use hw_dag::{Dag, View};
 
@@ -24,6 +24,7 @@ pub(crate) fn prune(
     present: &mut Table,
     next: &mut Table,
     firsts: &mut Firsts,
+    counts: &mut Counts,
     bound: Option<&Bound>,
 )
     requires consistent { IsTrue (is_consistent (graph question.now.dag.now) (observations question.now.dag.now question.now.panorama.now)) }
@@ -32,23 +33,26 @@ pub(crate) fn prune(
     requires present_length { length present.old ≡ question.now.dag.now.validators }
     requires next_length { length next.old ≡ question.now.dag.now.validators }
     requires firsts_length { length firsts.old ≡ question.now.dag.now.validators }
+    requires counts_length { length counts.old ≡ question.now.dag.now.validators }
     requires exact { IfSome bound (λ bound. IsExact question.now.weights.now question.now.dag.now question.now.panorama.now bound.now) }
     ensures present { present.new ≡ table_after (suc (length question.now.weights.now)) question.now.weights.now (graph question.now.dag.now) (observations question.now.dag.now question.now.panorama.now) question.now.quorum lower.now }
     ensures next_length { length next.new ≡ question.now.dag.now.validators }
     ensures firsts_length { length firsts.new ≡ question.now.dag.now.validators }
+    ensures counts_length { length counts.new ≡ question.now.dag.now.validators }
 {
-    put_members(question, lower, present, firsts, bound);
+    put_members(question, lower, present, firsts, counts, bound);
     put_next(question, lower, present, firsts, next);
     present.copy_from(next);
 }
 
 /// Leaves in `present` who is in the committee of the level above that of `lower`, with their first units.
-/// Their starts aren't looked for.
+/// Their starts aren't looked for. `counts` is scratch.
 pub(crate) fn put_members(
     question: &Question<'_>,
     lower: &Table,
     present: &mut Table,
     firsts: &mut Firsts,
+    counts: &mut Counts,
     bound: Option<&Bound>,
 )
     requires consistent { IsTrue (is_consistent (graph question.now.dag.now) (observations question.now.dag.now question.now.panorama.now)) }
@@ -56,19 +60,20 @@ pub(crate) fn put_members(
     requires lower_length { length lower.now ≡ question.now.dag.now.validators }
     requires present_length { length present.old ≡ question.now.dag.now.validators }
     requires firsts_length { length firsts.old ≡ question.now.dag.now.validators }
+    requires counts_length { length counts.old ≡ question.now.dag.now.validators }
     requires exact { IfSome bound (λ bound. IsExact question.now.weights.now question.now.dag.now question.now.panorama.now bound.now) }
     ensures members { SameMembers present.new (table_after (length question.now.weights.now) question.now.weights.now (graph question.now.dag.now) (observations question.now.dag.now question.now.panorama.now) question.now.quorum lower.now) }
     ensures present_length { length present.new ≡ question.now.dag.now.validators }
     ensures firsts_length { length firsts.new ≡ question.now.dag.now.validators }
     ensures firsts { AreFirsts question.now.dag.now question.now.panorama.now lower.now present.new firsts.new }
+    ensures counts_length { length counts.new ≡ question.now.dag.now.validators }
 {
     present.copy_from(lower);
     firsts.find(question.dag, question.panorama, lower, present);
-    let seen = seen_of(bound, firsts);
-    let total = members_weight(question.dag, question.weights, present);
-    let mut weight = total;
+    counts.put(question, present, firsts, bound);
+    let mut weight = members_weight(question.dag, question.weights, present);
     for _ in 0..question.weights.len() {
-        let left = strike(question, lower, present, firsts, weight, seen, total);
+        let left = strike(question, lower, present, firsts, counts, weight);
         // Nobody sees a quorum of those who weigh less than one.
         if left < question.quorum {
             present.clear();
@@ -79,16 +84,6 @@ pub(crate) fn put_members(
             return;
         }
         weight = left;
-    }
-}
-
-// What each latest unit sees of those whose first units these are, where the bound is of the same ones.
-fn seen_of<'a>(bound: Option<&'a Bound>, firsts: &Firsts) -> Option<&'a [u64]>
-    ensures { (weights : List ℕ) (dag : UnitGraph) (panorama : List Slot) → IfSome bound.entry (λ bound. IsExact weights dag panorama bound.now) → IfSome result (λ seen. AreSeen weights dag panorama firsts.now seen.now 0) }
-{
-    match bound {
-        Some(bound) => bound.supports_of(firsts),
-        None => None,
     }
 }
 
@@ -108,43 +103,39 @@ fn members_weight(dag: &Dag, weights: &[u64], present: &Table) -> u64
 }
 
 // One round: lets fall, one after the other, those present whose latest unit sees no quorum of those still
-// there, and says what those left weigh. It ends as soon as that is less than a quorum. `seen` is what each
-// latest unit saw, where that is known, when those present weighed `total`.
+// there, and says what those left weigh. It ends as soon as that is less than a quorum. `counts` has what the
+// latest units of those present see of them.
 fn strike(
     question: &Question<'_>,
     lower: &Table,
     present: &mut Table,
     firsts: &mut Firsts,
+    counts: &mut Counts,
     weight: u64,
-    seen: Option<&[u64]>,
-    total: u64,
 ) -> u64
     requires consistent { IsTrue (is_consistent (graph question.now.dag.now) (observations question.now.dag.now question.now.panorama.now)) }
     requires slots { HasSlots question.now.panorama.now present.old }
     requires present_length { length present.old ≡ question.now.dag.now.validators }
     requires firsts_length { length firsts.old ≡ question.now.dag.now.validators }
     requires firsts { AreFirsts question.now.dag.now question.now.panorama.now lower.now present.old firsts.old }
+    requires counts { AreSeen question.now.weights.now question.now.dag.now question.now.panorama.now present.old firsts.old counts.old }
     requires weight { weight ≡ weight_of question.now.weights.now (is_member present.old) }
-    requires total { weight ≤ total }
-    requires seen { IfSome seen (λ seen. AreSeen question.now.weights.now question.now.dag.now question.now.panorama.now firsts.old seen.now (total - weight)) }
     ensures present_length { length present.new ≡ question.now.dag.now.validators }
     ensures firsts_length { length firsts.new ≡ question.now.dag.now.validators }
     ensures firsts { AreFirsts question.now.dag.now question.now.panorama.now lower.now present.new firsts.new }
+    ensures counts { AreSeen question.now.weights.now question.now.dag.now question.now.panorama.now present.new firsts.new counts.new }
     ensures weight { result ≡ weight_of question.now.weights.now (is_member present.new) }
     ensures among { AreAmong present.new present.old }
     ensures keeps { (kept : Starts) → AreAmong kept (next_table question.now.weights.now (graph question.now.dag.now) (observations question.now.dag.now question.now.panorama.now) question.now.quorum lower.now kept) → AreAmong kept present.old → AreAmong kept present.new }
     ensures judged { question.now.quorum ≤ result → AreAmong present.new (next_table question.now.weights.now (graph question.now.dag.now) (observations question.now.dag.now question.now.panorama.now) question.now.quorum lower.now present.old) }
     ensures settled { result ≡ weight → AreAmong present.old present.new }
-    ensures total { result ≤ total }
-    ensures seen { IfSome seen.entry (λ seen. AreSeen question.now.weights.now question.now.dag.now question.now.panorama.now firsts.new seen.now (total - result)) }
 {
     let mut left = weight;
     for v in 0..question.dag.validators() {
         if left < question.quorum {
             return left;
         }
-        let fallen = total - left;
-        left -= let_fall(question, lower, present, firsts, seen, fallen, v);
+        left -= let_fall(question, lower, present, firsts, counts, v);
     }
     left
 }
@@ -155,8 +146,7 @@ fn let_fall(
     lower: &Table,
     present: &mut Table,
     firsts: &mut Firsts,
-    seen: Option<&[u64]>,
-    fallen: u64,
+    counts: &mut Counts,
     validator: u32,
 ) -> u64
     requires consistent { IsTrue (is_consistent (graph question.now.dag.now) (observations question.now.dag.now question.now.panorama.now)) }
@@ -164,66 +154,52 @@ fn let_fall(
     requires present_length { length present.old ≡ question.now.dag.now.validators }
     requires firsts_length { length firsts.old ≡ question.now.dag.now.validators }
     requires firsts { AreFirsts question.now.dag.now question.now.panorama.now lower.now present.old firsts.old }
-    requires seen { IfSome seen (λ seen. AreSeen question.now.weights.now question.now.dag.now question.now.panorama.now firsts.old seen.now fallen) }
+    requires counts { AreSeen question.now.weights.now question.now.dag.now question.now.panorama.now present.old firsts.old counts.old }
     requires within { validator < question.now.dag.now.validators }
     ensures present_length { length present.new ≡ question.now.dag.now.validators }
     ensures firsts_length { length firsts.new ≡ question.now.dag.now.validators }
     ensures firsts { AreFirsts question.now.dag.now question.now.panorama.now lower.now present.new firsts.new }
+    ensures counts { AreSeen question.now.weights.now question.now.dag.now question.now.panorama.now present.new firsts.new counts.new }
     ensures weight { result + weight_of question.now.weights.now (is_member present.new) ≡ weight_of question.now.weights.now (is_member present.old) }
     ensures others { (v : ℕ) → (v ≡ validator → ⊥) → entry present.new v ≡ entry present.old v }
     ensures judged { is_some (entry present.new validator) ≡ is_some (if is_some (entry present.old validator) then start_over question.now.weights.now (graph question.now.dag.now) (observations question.now.dag.now question.now.panorama.now) question.now.quorum lower.now present.old validator else None) }
     ensures stays { result ≡ 0 → entry present.new validator ≡ entry present.old validator }
-    ensures near { (n : ℕ) → n < count_of question.now.dag.now → IsNear question.now.weights.now question.now.dag.now firsts.new n (weight_after question.now.weights.now question.now.dag.now firsts.old n) result }
 {
     if present.get(validator).is_none()
-        || remains(question, lower, present, firsts, seen, fallen, validator)
+        || remains(question, lower, present, firsts, counts, validator)
     {
         return 0;
     }
+    counts.take(question, present, firsts, validator);
     present.set(validator, None);
     firsts.set(validator, NO_UNIT);
     question.weights[validator as usize]
 }
 
 // Whether the validator, which is present, has a start over those present: its latest unit sees a quorum of
-// them, and isn't before its start of the level below. `seen` is what each latest unit saw, where that is
-// known, before those fell who weigh `fallen`.
+// them, and isn't before its start of the level below.
 fn remains(
     question: &Question<'_>,
     lower: &Table,
     present: &Table,
     firsts: &Firsts,
-    seen: Option<&[u64]>,
-    fallen: u64,
+    counts: &Counts,
     validator: u32,
 ) -> bool
     requires consistent { IsTrue (is_consistent (graph question.now.dag.now) (observations question.now.dag.now question.now.panorama.now)) }
     requires slots { HasSlots question.now.panorama.now present.now }
-    requires firsts_length { length firsts.now ≡ question.now.dag.now.validators }
     requires firsts { AreFirsts question.now.dag.now question.now.panorama.now lower.now present.now firsts.now }
-    requires seen { IfSome seen (λ seen. AreSeen question.now.weights.now question.now.dag.now question.now.panorama.now firsts.now seen.now fallen) }
+    requires counts { AreSeen question.now.weights.now question.now.dag.now question.now.panorama.now present.now firsts.now counts.now }
     requires within { validator < question.now.dag.now.validators }
     requires present { is_some (entry present.now validator) ≡ true }
     ensures { result ≡ is_some (if is_some (entry present.now validator) then start_over question.now.weights.now (graph question.now.dag.now) (observations question.now.dag.now question.now.panorama.now) question.now.quorum lower.now present.now validator else None) }
 {
     match question.panorama.get(validator) {
         View::Correct(tip) => {
-            let floor = lower.get(validator).unwrap_or(0);
-            let saw = seen_by(seen, validator);
-            has_start(question, tip, floor, firsts, saw, fallen)
+            lower.get(validator).unwrap_or(0) <= question.dag.unit(tip).signed().unit.seq
+                && question.quorum <= counts.get(validator)
         }
         View::Absent | View::Faulty => false,
-    }
-}
-
-// What the validator's latest unit saw, where that is known.
-fn seen_by(seen: Option<&[u64]>, validator: u32) -> Option<u64>
-    requires { IfSome seen (λ seen. validator < length seen.now) }
-    ensures { result ≡ option_map (λ seen. slice_index_or seen.now validator 0) seen.entry }
-{
-    match seen {
-        Some(seen) => Some(seen[validator as usize]),
-        None => None,
     }
 }
 

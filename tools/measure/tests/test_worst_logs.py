@@ -101,6 +101,7 @@ class Logs(unittest.TestCase):
             "equivocations": "--units 5",
             "stale": "--validators 6 --rounds 9",
             "swing": "--validators 6 --rounds 9",
+            "falls": "--validators 6 --rounds 3",
         }
         for kind, options in words.items():
             with self.subTest(kind):
@@ -186,6 +187,11 @@ class Logs(unittest.TestCase):
         units = {unit.name: unit for unit in units_of("swing --validators 6 --rounds 9")}
         for unit in units.values():
             self.assertEqual({units[name].creator % 2 for name in unit.cited()} - {unit.creator % 2}, set())
+
+    def test_the_last_of_a_chain_sees_one_less_than_a_quorum(self):
+        units = units_of("falls --validators 8 --rounds 2")
+        seen = {unit.creator: len(unit.cited()) for unit in units if unit.sequence == 1}
+        self.assertEqual(seen, {**dict.fromkeys(range(7), 5), 7: 4})
 
 
 class Words(unittest.TestCase):

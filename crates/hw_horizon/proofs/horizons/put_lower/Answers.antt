@@ -15,7 +15,7 @@ loop-below-init c =
       lower = first_table c.args.question.now.weights.now (graph c.args.question.now.dag.now) (observations c.args.question.now.dag.now c.args.question.now.panorama.now) c.args.question.now.quorum (node_at c.args.question.now.dag.now c.args.question.now.block.0) c.put_vote_starts.new.table (omega (arith, first.length))
           (λ v lt. sym (vote_start_is c.args.question.now.dag.now first.graph c.args.question.now.weights.now c.args.question.now.asked.weights_are c.args.question.now.panorama.now c.args.question.now.asked.panorama_is c.args.question.now.block.0 c.args.question.now.asked.known v _ (first.starts v (omega arith))));
       slots = slots_first c.args.question.now.dag.now c.args.question.now.panorama.now c.args.question.now.block.0 c.args.question.now.dag.now.validators c.put_vote_starts.new.table first.length first.starts;
-      scratch = record { lower = first.length; present = scratch.present; next = scratch.next; firsts = scratch.firsts };
+      scratch = record { lower = first.length; present = scratch.present; next = scratch.next; firsts = scratch.firsts; counts = scratch.counts };
     }
 
 pub copy_from-requires : goal.copy_from-requires
@@ -33,5 +33,5 @@ loop-below-preserved c =
           i.lower (c.copy_from.ensures ∙ c.prune.ensures.present) refl;
       slots = subst (λ (t : Starts). HasSlots c.args.question.now.panorama.now t) (sym (c.copy_from.ensures ∙ c.prune.ensures.present))
           (after_slots c.args.question.now.weights.now (graph c.args.question.now.dag.now) (observations c.args.question.now.dag.now c.args.question.now.panorama.now) c.args.question.now.quorum c.args.question.now.panorama.now _ c.loop-below.scratch.lower i.slots);
-      scratch = record { lower = ap length c.copy_from.ensures ∙ long; present = long; next = c.prune.ensures.next_length; firsts = c.prune.ensures.firsts_length };
+      scratch = record { lower = ap length c.copy_from.ensures ∙ long; present = long; next = c.prune.ensures.next_length; firsts = c.prune.ensures.firsts_length; counts = c.prune.ensures.counts_length };
     }

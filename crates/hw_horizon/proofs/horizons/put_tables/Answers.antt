@@ -23,7 +23,7 @@ loop-below-init c =
       lower = is;
       slots = slots_first c.args.question.now.dag.now c.args.question.now.panorama.now c.args.question.now.block.0 c.args.question.now.dag.now.validators c.put_vote_starts.new.table first.length first.starts;
       lengths = lengths_more c.args.tables.now 0 c.args.question.now.dag.now.validators c.copy_from.new.self (omega arith) (ap length c.copy_from.ensures ∙ first.length) c.requires.tables;
-      scratch = record { lower = first.length; present = scratch.present; next = scratch.next; firsts = scratch.firsts };
+      scratch = record { lower = first.length; present = scratch.present; next = scratch.next; firsts = scratch.firsts; counts = scratch.counts };
     }
 
 pub copy_from-requires-in-loop-below : goal.copy_from-requires-in-loop-below
@@ -62,5 +62,5 @@ loop-below-preserved c =
           (after_slots c.args.question.now.weights.now (graph c.args.question.now.dag.now) (observations c.args.question.now.dag.now c.args.question.now.panorama.now) c.args.question.now.quorum c.args.question.now.panorama.now _ c.loop-below.scratch.lower i.slots);
       lengths = lengths_more c.loop-below.tables (c.loop-below.below + 1) c.args.question.now.dag.now.validators c.copy_from-in-loop-below-2.new.self (omega arith)
           (ap length (c.copy_from-in-loop-below-2.ensures ∙ c.copy_from-in-loop-below.ensures) ∙ long) i.lengths;
-      scratch = record { lower = ap length c.copy_from-in-loop-below.ensures ∙ long; present = long; next = c.prune.ensures.next_length; firsts = c.prune.ensures.firsts_length };
+      scratch = record { lower = ap length c.copy_from-in-loop-below.ensures ∙ long; present = long; next = c.prune.ensures.next_length; firsts = c.prune.ensures.firsts_length; counts = c.prune.ensures.counts_length };
     }

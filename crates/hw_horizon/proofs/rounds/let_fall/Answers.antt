@@ -3,7 +3,7 @@ use Rattle.std.specs.Prelude.{is_some, not}
 use Rattle.hw_horizon.specs.Tables.{is_member}
 use Rattle.hw_horizon.proofs.RoundLaws.{put_same}
 use Rattle.hw_horizon.proofs.StrikeLaws.{other_entry, fallen_firsts}
-use Rattle.hw_horizon.proofs.SeenLaws.{one_fell}
+use Rattle.hw_horizon.proofs.SeenLaws.{fewer_seen}
 use Rattle.hw_horizon.proofs.WeightLaws.{one_fewer}
 use Rattle.hw_horizon.proofs.rounds.let_fall.Goals as goal
 
@@ -26,9 +26,8 @@ returns-clause-weight c =
     (λ v other. ap is_some (sym (other_entry c.args.present.now c.set.new.self c.args.validator v _ c.set.ensures other))) (omega arith) in
     omega arith
 
-pub returns-clause-near : goal.returns-clause-near
-returns-clause-near c = λ n ln.
-    let lf = c.requires.firsts_length in
-    let lw = c.args.question.now.asked.weights_are.length_is in
+pub returns-clause-counts : goal.returns-clause-counts
+returns-clause-counts c =
+    let lp = c.requires.present_length in
     let lt = c.requires.within in
-    one_fell c.args.question.now.weights.now c.args.question.now.dag.now c.args.question.now.asked.graph_is c.args.firsts.now c.set-2.new.self c.args.validator c.set-2.ensures (omega arith) (omega arith) n ln
+    fewer_seen c.args.question.now.weights.now c.args.question.now.dag.now c.args.question.now.panorama.now c.args.present.now c.set.new.self c.args.validator c.set-2.new.self c.take.new.self c.set.ensures (omega arith) (c.take.ensures c.set-2.new.self c.set-2.ensures)

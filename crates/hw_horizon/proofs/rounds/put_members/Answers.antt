@@ -1,9 +1,8 @@
-use Rattle.std.proofs.Common.{◌≡◌, ℕ, length, sym, ap, subst, ◌∙◌, arith}
-use Rattle.std.specs.Prelude.{is_some, IfSome}
+use Rattle.std.proofs.Common.{◌≡◌, ℕ, length, sym, ap, ◌∙◌, arith}
+use Rattle.std.specs.Prelude.{is_some}
 use Rattle.hw_dag.specs.Dag.{graph, observations}
 use Rattle.hw_horizon.specs.Tables.{Starts, entry, AreAmong, table_after}
 use Rattle.hw_horizon.specs.Starts.{HasSlots}
-use Rattle.hw_horizon.specs.Firsts.{AreSeen}
 use Rattle.hw_horizon.proofs.RoundLaws.{after_slots, members_first}
 use Rattle.hw_horizon.proofs.SightLaws.{light_none}
 use Rattle.hw_horizon.proofs.StrikeLaws.{among_both, among_more, among_weight, cleared_firsts, left_stable, left_within, none_left, stable_left}
@@ -14,10 +13,8 @@ loop-init c = record {
   present_length = ap length c.copy_from.ensures ∙ c.requires.lower_length;
   firsts_length = c.find.ensures.length;
   firsts = c.find.ensures.firsts;
-  weight = c.members_weight-total.ensures.weight;
-  total = omega arith;
-  seen = subst (λ (k : ℕ). IfSome c.seen_of-seen.result (λ s. AreSeen c.args.question.now.weights.now c.args.question.now.dag.now c.args.question.now.panorama.now c.find.new.self s.now k)) (omega arith)
-      (c.seen_of-seen.ensures c.args.question.now.weights.now c.args.question.now.dag.now c.args.question.now.panorama.now c.requires.exact);
+  weight = c.members_weight-weight.ensures.weight;
+  counts = c.put.ensures;
   down = λ v h. sym (members_first c.args.question.now.weights.now (graph c.args.question.now.dag.now) (observations c.args.question.now.dag.now c.args.question.now.panorama.now) c.args.question.now.quorum c.args.lower.now c.copy_from.new.self c.copy_from.ensures v) ∙ h;
   up = λ v h. ap (λ (t : Starts). is_some (entry t v)) c.copy_from.ensures
       ∙ left_within c.args.question.now.weights.now (graph c.args.question.now.dag.now) (observations c.args.question.now.dag.now c.args.question.now.panorama.now) c.args.question.now.quorum (length c.args.question.now.weights.now) c.args.lower.now v h;
@@ -39,12 +36,12 @@ returns-then-left-question-clause-members c =
     let weight = c.strike-left.ensures.weight in
     let light = c.if-left-question.true in
     none_left c.args.question.now.weights.now (graph c.args.question.now.dag.now) (observations c.args.question.now.dag.now c.args.question.now.panorama.now) c.args.question.now.quorum c.args.lower.now c.clear.new.self long
-    (light_none c.args.question.now.dag.now c.members_weight-total.ensures.graph c.args.question.now.panorama.now c.args.question.now.asked.panorama_is c.requires.consistent c.args.question.now.weights.now c.args.question.now.quorum c.args.lower.now T slots (omega arith))
+    (light_none c.args.question.now.dag.now c.members_weight-weight.ensures.graph c.args.question.now.panorama.now c.args.question.now.asked.panorama_is c.requires.consistent c.args.question.now.weights.now c.args.question.now.quorum c.args.lower.now T slots (omega arith))
     c.clear.ensures.nobody
 
 pub returns-then-left-question-clause-firsts : goal.returns-then-left-question-clause-firsts
 returns-then-left-question-clause-firsts c =
-    cleared_firsts c.args.question.now.dag.now c.members_weight-total.ensures.graph c.args.question.now.panorama.now c.args.lower.now c.clear.new.self c.clear-then-left-question.new.self c.clear.ensures.nobody
+    cleared_firsts c.args.question.now.dag.now c.members_weight-weight.ensures.graph c.args.question.now.panorama.now c.args.lower.now c.clear.new.self c.clear-then-left-question.new.self c.clear.ensures.nobody
     (c.clear-then-left-question.ensures.length ∙ c.strike-left.ensures.firsts_length) c.clear-then-left-question.ensures.none
 
 pub returns-then-left-weight-clause-members : goal.returns-then-left-weight-clause-members
@@ -67,8 +64,7 @@ loop-preserved c =
       firsts_length = c.strike-left.ensures.firsts_length;
       firsts = c.strike-left.ensures.firsts;
       weight = c.strike-left.ensures.weight;
-      total = c.strike-left.ensures.total;
-      seen = c.strike-left.ensures.seen;
+      counts = c.strike-left.ensures.counts;
       down = among_more c.args.question.now.weights.now (graph c.args.question.now.dag.now) (observations c.args.question.now.dag.now c.args.question.now.panorama.now) c.args.question.now.quorum c.loop.counter _ c.args.lower.now c.loop.present c.strike-left.new.present
           c.loop.invariant.down (c.strike-left.ensures.judged c.if-left-question.false) (omega arith);
       up = c.strike-left.ensures.keeps T (left_stable c.args.question.now.weights.now (graph c.args.question.now.dag.now) (observations c.args.question.now.dag.now c.args.question.now.panorama.now) c.args.question.now.quorum c.args.lower.now long) c.loop.invariant.up;

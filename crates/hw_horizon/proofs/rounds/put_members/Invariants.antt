@@ -1,5 +1,4 @@
-use Rattle.std.proofs.Common.{◌≡◌, ◌≤◌, ◌-◌, length}
-use Rattle.std.specs.Prelude.{IfSome}
+use Rattle.std.proofs.Common.{◌≡◌, length}
 use Rattle.hw_types.specs.Votes.{weight_of}
 use Rattle.hw_dag.specs.Dag.{graph, observations}
 use Rattle.hw_horizon.specs.Tables.{is_member, AreAmong, table_after}
@@ -12,8 +11,7 @@ invariant-loop l = record {
   firsts_length : length l.firsts ≡ l.question.dag.now.validators;
   firsts : AreFirsts l.question.dag.now l.question.panorama.now l.lower l.present l.firsts;
   weight : l.weight ≡ weight_of l.question.weights.now (is_member l.present);
-  total : l.weight ≤ l.total;
-  seen : IfSome l.seen (λ s. AreSeen l.question.weights.now l.question.dag.now l.question.panorama.now l.firsts s.now (l.total - l.weight));
+  counts : AreSeen l.question.weights.now l.question.dag.now l.question.panorama.now l.present l.firsts l.counts;
   down : AreAmong l.present (table_after l.counter l.question.weights.now (graph l.question.dag.now) (observations l.question.dag.now l.question.panorama.now) l.question.quorum l.lower);
   up : AreAmong (table_after (length l.question.weights.now) l.question.weights.now (graph l.question.dag.now) (observations l.question.dag.now l.question.panorama.now) l.question.quorum l.lower) l.present;
 }

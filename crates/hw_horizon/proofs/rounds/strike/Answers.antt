@@ -1,10 +1,8 @@
-use Rattle.std.proofs.Common.{◌≡◌, ◌-◌, ℕ, inl, inr, below_more, sym, ap, ◌∙◌, arith}
+use Rattle.std.proofs.Common.{◌≡◌, ℕ, inl, inr, below_more, sym, ap, ◌∙◌, arith}
 use Rattle.std.specs.Prelude.{is_some}
 use Rattle.std.proofs.lemmas.Bool.{cases_eq}
-use Rattle.std.proofs.lemmas.Option.{IfSome_then}
 use Rattle.hw_dag.specs.Dag.{graph, observations}
 use Rattle.hw_horizon.specs.Tables.{entry, AreAmong}
-use Rattle.hw_horizon.proofs.SeenLaws.{more_fell}
 use Rattle.hw_horizon.proofs.StrikeLaws.{judged_among, judged_keeps, judged_start, all_judged}
 use Rattle.hw_horizon.proofs.rounds.strike.Goals as goal
 
@@ -20,7 +18,7 @@ loop-v-init c = record {
   keeps = λ kept stable down. down;
   judged = λ v lt h. absurd (omega arith);
   settled = λ same v h. h;
-  seen = c.requires.seen;
+  counts = c.requires.counts;
 }
 
 pub loop-v-preserved : goal.loop-v-preserved
@@ -53,9 +51,7 @@ loop-v-preserved c =
             | inl here ↦ ap (λ (k : ℕ). is_some (entry c.let_fall-left.new.present k)) here ∙ ap is_some (j.stays none) ∙ ap (λ (k : ℕ). is_some (entry c.loop-v.present k)) (sym here) ∙ was
             | inr other ↦ ap is_some (j.others v other) ∙ was
           ];
-      seen = IfSome_then c.args.seen i.seen
-          (λ s are. more_fell c.args.question.now.weights.now c.args.question.now.dag.now c.args.question.now.panorama.now c.args.question.now.asked.panorama_is c.loop-v.firsts c.let_fall-left.new.firsts s.now (c.args.total - c.loop-v.left) c.let_fall-left.result _ are j.near
-          (let whole = c.requires.total in omega arith));
+      counts = j.counts;
     }
 
 pub returns-clause-judged : goal.returns-clause-judged

@@ -1,5 +1,5 @@
-use Rattle.std.proofs.Common.{◌≡◌, ℕ, ◌<◌, ◌≤◌, ◌-◌, true, length}
-use Rattle.std.specs.Prelude.{is_some, IfSome}
+use Rattle.std.proofs.Common.{◌≡◌, ℕ, ◌<◌, ◌≤◌, true, length}
+use Rattle.std.specs.Prelude.{is_some}
 use Rattle.hw_types.specs.Votes.{weight_of}
 use Rattle.hw_dag.specs.Dag.{graph, observations}
 use Rattle.hw_horizon.specs.Tables.{Starts, entry, is_member, start_over, next_table, AreAmong}
@@ -19,5 +19,5 @@ invariant-loop-v l = record {
   keeps : (kept : Starts) → AreAmong kept (next_table l.question.weights.now (graph l.question.dag.now) (observations l.question.dag.now l.question.panorama.now) l.question.quorum l.lower kept) → AreAmong kept l.fn.present → AreAmong kept l.present;
   judged : (v : ℕ) → v < l.v → is_some (entry l.present v) ≡ true → is_some (start_over l.question.weights.now (graph l.question.dag.now) (observations l.question.dag.now l.question.panorama.now) l.question.quorum l.lower l.fn.present v) ≡ true;
   settled : l.left ≡ l.fn.weight → AreAmong l.fn.present l.present;
-  seen : IfSome l.seen (λ s. AreSeen l.question.weights.now l.question.dag.now l.question.panorama.now l.firsts s.now (l.fn.total - l.left));
+  counts : AreSeen l.question.weights.now l.question.dag.now l.question.panorama.now l.present l.firsts l.counts;
 }
