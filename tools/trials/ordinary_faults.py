@@ -11,6 +11,7 @@
     slow-name       the same, and names resolve in four seconds (with a C compiler)
     zeroed-entry    the signature of a log's last entry is zeros: the node doesn't start, and says why
     wrong-key       a validator's own key is another: likewise
+    unsigned-vertex peers send vertices that aren't signed: each kind of node says so once a minute, with who it was
     talking-peer    a validator with a good PEER and one that says the same vertices again and again, not too slowly
     parting-peer    the same, with one that says what isn't due and stays
     taken-port      a hub whose port is taken: few lines, and it serves as soon as the port is free
@@ -259,6 +260,58 @@ def wrong_key(trial):
     return refusal(trial, network, folder)
 
 
+# ---- vertices that aren't signed
+
+# An endorsement of a unit that nobody has, whose signature is zeros; and what who meets says before its vertices.
+UNSIGNED = b"\x02\x03" + bytes(32 + 4 + 32)
+SUMMARY_OF_THREE, NOBODY_TORN, DONE = b"\x03" + bytes([0, 0, 0, 3, 0, 0, 0]), b"\x04" + bytes(4), b"\x05"
+
+
+def dial_and_say(port, said):
+    with socket.create_connection(("127.0.0.1", port), 10) as link:
+        link.sendall(said)
+        link.shutdown(socket.SHUT_WR)
+        read_on(link)
+
+
+def read_on(link):
+    link.settimeout(10)
+    while link.recv(65536):
+        pass
+
+
+def told_of(network, name):
+    """What a node told of such vertices: who sent one, and how many there were."""
+    lines, part = output(network, name, "err").splitlines(), ": a vertex isn't signed by the keys, and is refused ("
+    return [tuple(line.split(part)) for line in lines if part in line]
+
+
+def unsigned_vertex(trial):
+    with trial.network() as network:
+        hello, vertices = framed(HELLO_KIND + network.instance()), framed(UNSIGNED) * 3
+        meeting = hello + framed(SUMMARY_OF_THREE) + framed(NOBODY_TORN) + vertices + framed(DONE)
+        dial_and_say(network.port, hello + vertices)
+        port = free_port()
+        network.start("host", "host", f"127.0.0.1:{port}", 2)
+        await_listener(port)
+        dial_and_say(port, meeting)
+        peers = {"run": hello + vertices, "meet": meeting}
+        for name, said in peers.items():
+            with peer_that(lambda link, said=said: (link.sendall(said), read_on(link))) as address:
+                peers[name] = address
+                network.start(name, name, *((0, 2, address) if name == "run" else (address,)))
+                ends_within(network, name, 20)
+        # Another one a minute later is told again, with the three from before.
+        trial.run(network, 61)
+        dial_and_say(network.port, hello + framed(UNSIGNED))
+        trial.run(network, 1)
+        first, second = [("highway: 127.0.0.1", "1 so far)")], [("highway: 127.0.0.1", "4 so far)")]
+        wanted = {"hub": first + second, "host": first}
+        wanted |= {name: [(f"highway: {address}", "1 so far)")] for name, address in peers.items()}
+        seen = {name: told_of(network, name) for name in wanted}
+        return Seen(seen == wanted, f"{seen}")
+
+
 # ---- peers
 
 
@@ -461,6 +514,7 @@ KINDS = {
         slow_name,
         zeroed_entry,
         wrong_key,
+        unsigned_vertex,
         talking_peer,
         parting_peer,
         taken_port,
