@@ -42,7 +42,7 @@ fn run(rt: HostRuntime) -> Result<u8, OutOfMemory> {
 /// Runs over the files, the output, the clock and the network of the host. The values of decided blocks go into a
 /// file, and their count onto standard error; a consumer that is dropped is reported there. Where the words ask to
 /// serve or to host, the door listens at their address. The log of a node that runs is appended to by this process
-/// alone, and is held against the keys before the node starts, as is each vertex of a peer that doesn't go into the log.
+/// alone, and is held against the keys before the node starts. So is each vertex of a peer that doesn't go into the log.
 fn run_on_host(rt: HostRuntime, words: &Words) -> Result<u8, OutOfMemory> {
     let alloc = rt.alloc();
     let request = Request::of(words);

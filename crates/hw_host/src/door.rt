@@ -117,9 +117,14 @@ struct Peer {
 }
 
 impl Peer {
-    fn unknown() -> Peer {
+    /// Who may come to this place, if the door listens at one: faults are told under its name until somebody came.
+    fn who_may_come(alloc: Global, place: Option<&str>) -> Peer {
+        let name = match place {
+            Some(place) => String::from_str(alloc, place).ok(),
+            None => None,
+        };
         Peer {
-            name: None,
+            name,
             dialled: None,
             came_from: None,
             appended: 0,
@@ -179,7 +184,7 @@ impl<'a, R: Net + Voice> HostDoor<'a, R> {
             listener: None,
             waiting: WaitingRoom::new(runtime.alloc()),
             session: None,
-            peer: Peer::unknown(),
+            peer: Peer::who_may_come(runtime.alloc(), None),
             addresses: Addresses::new(runtime.alloc()),
             failures: Failures::new(runtime.alloc()),
             refusals: 0,
@@ -237,9 +242,9 @@ impl<'a, R: Net + Voice> HostDoor<'a, R> {
         ensures numbers { self.new.numbers ≡ self.old.numbers }
     {
         self.leave();
-        self.peer = Peer::unknown();
-        let visitor = self.next_visitor()?;
         let alloc = self.runtime.alloc();
+        self.peer = Peer::who_may_come(alloc, self.place);
+        let visitor = self.next_visitor()?;
         let address = visitor.address;
         self.peer = Peer::who_came(alloc, address, self.appended());
         let now = Instant::now(&self.runtime)?;
