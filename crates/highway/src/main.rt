@@ -7,7 +7,8 @@ mod usage;
 
 use certificate::tell_origin;
 use hw_host::{
-    Announced, BlockCount, HostClock, HostDoor, HostSink, LogFile, NO_LIMIT, NodeFiles, ValueFile,
+    Announced, BlockCount, HostClock, HostDoor, HostSink, LogFile, NO_LIMIT, NodeFiles, ToldFiles,
+    ValueFile,
 };
 use hw_io::Consumer;
 use hw_program::{Command, NodeCommand, OUT_OF_MEMORY, Request, Words, highway};
@@ -46,7 +47,7 @@ fn run(rt: HostRuntime) -> Result<u8, OutOfMemory> {
 fn run_on_host(rt: HostRuntime, words: &Words) -> Result<u8, OutOfMemory> {
     let alloc = rt.alloc();
     let request = Request::of(words);
-    let values = ValueFile::new(alloc, NodeFiles::new(rt, None));
+    let values = ValueFile::new(alloc, ToldFiles::new(rt));
     let count = BlockCount::new(alloc, HostSink::new(rt.stderr()));
     let mut consumers: Vec<Box<dyn Consumer>> = Vec::new(alloc);
     consumers.push(Box::new(alloc, Announced::new(rt, 0, values))?)?;

@@ -1,4 +1,4 @@
-//! The files of a node that runs, and of its consumers: a log is safe, and each failure is reported to a person.
+//! The files of a node that runs: its log is safe, and each failure is reported to a person.
 ghost use Rattle.std.specs.{Prelude.{◌≡◌, ◌≤◌, ◌^◌, [], false, None, IfErr, OnOk, OnErr}, Option.{option_map}};
 ghost use Rattle.hw_io.specs.Faults.{HasCause, raised};
 
