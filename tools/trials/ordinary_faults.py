@@ -11,13 +11,17 @@
     slow-name       the same, and names resolve in four seconds (with a C compiler)
     zeroed-entry    the signature of a log's last entry is zeros: the node doesn't start, and says why
     wrong-key       a validator's own key is another: likewise
+    unsigned-vertex peers send vertices that aren't signed: each kind of node says so once a minute, with who it was
     talking-peer    a validator with a good PEER and one that says the same vertices again and again, not too slowly
     parting-peer    the same, with one that says what isn't due and stays
     taken-port      a hub whose port is taken: few lines, and it serves as soon as the port is free
+    wrong-address   a hub whose ADDRESS is none of this machine: few lines, and it waits
     renamed-log     the log of a running node is renamed: it ends
+    renamed-both    its log and the log's lock are renamed: likewise
     replaced-log    a copy of it is put in its place: it ends
     new-log         a node without a log says where it makes one
-    values-as-log   LOG is the file of the values of blocks: refused, and nothing is written
+    cut-log         its log is cut to nothing: it ends, and the log isn't one that it starts from again
+    values-as-log   LOG, or another file, is the file of the values of blocks: refused, and nothing is written
     next-era        an era ends at its height, and the next one begins as docs/OPERATING.md says
     full-disk       the disk fills up in the middle of an entry (as root): the log stays whole
 
@@ -162,7 +166,9 @@ def idle_hub(trial):
         before = processor_seconds(network.nodes["hub"])
         trial.run(network)
         share = (processor_seconds(network.nodes["hub"]) - before) / trial.seconds
-        return Seen(share <= IDLE_SHARE, f"the hub takes {100 * share:.1f} % of a processor")
+        # A hub whose sessions are used up is another process, whose time begins anew.
+        text = f"the hub takes {100 * share:.1f} % of a processor, and was started again {network.restarts} times"
+        return Seen(share <= IDLE_SHARE and network.restarts == 0, text)
 
 
 # ---- the journal's limit
@@ -259,6 +265,58 @@ def wrong_key(trial):
     return refusal(trial, network, folder)
 
 
+# ---- vertices that aren't signed
+
+# An endorsement of a unit that nobody has, whose signature is zeros; and what who meets says before its vertices.
+UNSIGNED = b"\x02\x03" + bytes(32 + 4 + 32)
+SUMMARY_OF_THREE, NOBODY_TORN, DONE = b"\x03" + bytes([0, 0, 0, 3, 0, 0, 0]), b"\x04" + bytes(4), b"\x05"
+
+
+def dial_and_say(port, said):
+    with socket.create_connection(("127.0.0.1", port), 10) as link:
+        link.sendall(said)
+        link.shutdown(socket.SHUT_WR)
+        read_on(link)
+
+
+def read_on(link):
+    link.settimeout(10)
+    while link.recv(65536):
+        pass
+
+
+def told_of(network, name):
+    """What a node told of such vertices: who sent one, and how many there were."""
+    lines, part = output(network, name, "err").splitlines(), ": a vertex isn't signed by the keys, and is refused ("
+    return [tuple(line.split(part)) for line in lines if part in line]
+
+
+def unsigned_vertex(trial):
+    with trial.network() as network:
+        hello, vertices = framed(HELLO_KIND + network.instance()), framed(UNSIGNED) * 3
+        meeting = hello + framed(SUMMARY_OF_THREE) + framed(NOBODY_TORN) + vertices + framed(DONE)
+        dial_and_say(network.port, hello + vertices)
+        port = free_port()
+        network.start("host", "host", f"127.0.0.1:{port}", 2)
+        await_listener(port)
+        dial_and_say(port, meeting)
+        peers = {"run": hello + vertices, "meet": meeting}
+        for name, said in peers.items():
+            with peer_that(lambda link, said=said: (link.sendall(said), read_on(link))) as address:
+                peers[name] = address
+                network.start(name, name, *((0, 2, address) if name == "run" else (address,)))
+                ends_within(network, name, 20)
+        # Another one a minute later is told again, with the three from before.
+        trial.run(network, 61)
+        dial_and_say(network.port, hello + framed(UNSIGNED))
+        trial.run(network, 1)
+        first, second = [("highway: 127.0.0.1", "1 so far)")], [("highway: 127.0.0.1", "4 so far)")]
+        wanted = {"hub": first + second, "host": first}
+        wanted |= {name: [(f"highway: {address}", "1 so far)")] for name, address in peers.items()}
+        seen = {name: told_of(network, name) for name in wanted}
+        return Seen(seen == wanted, f"{seen}")
+
+
 # ---- peers
 
 
@@ -304,6 +362,21 @@ def parting_peer(trial):
 # ---- a hub that can't listen
 
 
+def wrong_address(trial):
+    with trial.network() as network:
+        # An address of documents, which no machine has, and one without a port.
+        for name, address in (("far", "192.0.2.1:7401"), ("portless", "127.0.0.1")):
+            network.start(name, "serve", address, 65536)
+        trial.run(network)
+        seen = {
+            name: (is_running(network, name), lines_of(network, name), output(network, name, "err").count("\n"))
+            for name in ("far", "portless")
+        }
+        # A new log is told, and why it can't listen.
+        is_well = all(runs and lines <= 20 and told <= 2 for runs, lines, told in seen.values())
+        return Seen(is_well, f"whether it runs, lines, and lines on standard error: {seen}")
+
+
 def taken_port(trial):
     with trial.network() as network:
         port = free_port()
@@ -343,6 +416,23 @@ def renamed_log(trial):
     return log_moved(trial, lambda log: log.rename(log.with_suffix(".old")))
 
 
+def renamed_both(trial):
+    def moves(log):
+        for file in (log, log.with_name(f"{log.name}.lock")):
+            file.rename(f"{file}.old")
+
+    return log_moved(trial, moves)
+
+
+def cut_log(trial):
+    seen = log_moved(trial, lambda log: os.truncate(log, 0))
+    log = trial.room / "network-1" / "v0" / "node.log"
+    words = [trial.program, "replay", log]
+    done = subprocess.run(words, cwd=trial.room, capture_output=True, text=True, check=False)
+    is_well = seen.is_well and done.returncode == 2 and log.stat().st_size == 0
+    return Seen(is_well, f"{seen.text}; then {done.stdout.strip()!r}")
+
+
 def replaced_log(trial):
     def moves(log):
         shutil.copy(log, log.with_suffix(".new"))
@@ -366,12 +456,25 @@ def values_as_log(trial):
         folder.mkdir()
         for file in ("settings.json", "keys"):
             shutil.copy(network.room / file, folder)
-        seen = []
-        for name in ("highway.blocks", "./highway.blocks", str(folder / "highway.blocks")):
-            words = [trial.program, "run", "settings.json", "keys", name, "0", "3", network.address]
-            done = subprocess.run(words, cwd=folder, capture_output=True, text=True, check=False)
-            seen.append((done.returncode, done.stdout.strip(), (folder / "highway.blocks").exists()))
-        return Seen(all(it == (4, "read fault", False) for it in seen), f"{seen}")
+        blocks = folder / "highway.blocks"
+        names = (blocks.name, f"./{blocks.name}", str(blocks))
+        runs = [["run", "settings.json", "keys", name, "0", "3", network.address] for name in names]
+        runs.append(["mend", network.room / "hub" / "node.log", blocks.name])
+        seen = [refused_words(trial, words, folder) + (blocks.exists(),) for words in runs]
+        is_well = all(it == (4, "read fault", False) for it in seen)
+        # As a file that is read: the settings stand there.
+        shutil.copy(network.room / "settings.json", blocks)
+        before = blocks.read_bytes()
+        for words in (["run", blocks.name, "keys", "new.log", "0", "3", network.address], ["replay", blocks.name]):
+            seen.append(refused_words(trial, words, folder))
+            is_well = is_well and seen[-1] == (4, "read fault")
+        return Seen(is_well and before == blocks.read_bytes() and not (folder / "new.log").exists(), f"{seen}")
+
+
+def refused_words(trial, words, folder):
+    """The status, and what is printed."""
+    done = subprocess.run([trial.program, *words], cwd=folder, capture_output=True, text=True, check=False)
+    return done.returncode, done.stdout.strip()
 
 
 def next_era(trial):
@@ -461,11 +564,15 @@ KINDS = {
         slow_name,
         zeroed_entry,
         wrong_key,
+        unsigned_vertex,
         talking_peer,
         parting_peer,
+        wrong_address,
         taken_port,
         renamed_log,
+        renamed_both,
         replaced_log,
+        cut_log,
         new_log,
         values_as_log,
         next_era,

@@ -13,7 +13,7 @@ use hw_host::{
 use hw_io::Consumer;
 use hw_program::{Command, NodeCommand, OUT_OF_MEMORY, Request, Words, highway};
 use hw_types::OutOfMemory;
-use node_log::{NodeFileNames, look_ahead};
+use node_log::{Ahead, NodeFileNames, look_ahead};
 use std::env;
 use std::io::ErrorKind;
 use std::process::ExitCode;
@@ -43,7 +43,7 @@ fn run(rt: HostRuntime) -> Result<u8, OutOfMemory> {
 /// Runs over the files, the output, the clock and the network of the host. The values of decided blocks go into a
 /// file, and their count onto standard error; a consumer that is dropped is reported there. Where the words ask to
 /// serve or to host, the door listens at their address. The log of a node that runs is appended to by this process
-/// alone, and is held against the keys before the node starts.
+/// alone, and is held against the keys before the node starts. So is each vertex of a peer that doesn't go into the log.
 fn run_on_host(rt: HostRuntime, words: &Words) -> Result<u8, OutOfMemory> {
     let alloc = rt.alloc();
     let request = Request::of(words);
@@ -56,17 +56,19 @@ fn run_on_host(rt: HostRuntime, words: &Words) -> Result<u8, OutOfMemory> {
         Some(name) => Some(LogFile::new(alloc, name)?),
         None => None,
     };
-    let round = match (&request, &log) {
+    let ahead = match (&request, &log) {
         (Request::Node(command), Some(log)) => look_ahead(rt, names_of(command), log),
-        _ => 0,
+        _ => Ahead::nothing(),
     };
     let mut files = NodeFiles::new(rt, log.as_ref()).within(
         limit_of(&request),
         long_file(&request),
     );
     let mut out = HostSink::new(rt.stdout());
-    let mut clock = HostClock::of_turns(rt, log.as_ref(), round);
-    let mut door = door_of(rt, &request).behind(log.as_ref());
+    let mut clock = HostClock::of_turns(rt, log.as_ref(), ahead.round);
+    let mut door = door_of(rt, &request)
+        .behind(log.as_ref())
+        .holding(ahead.keys);
     let status = highway(
         alloc,
         words,

@@ -31,29 +31,60 @@ pub struct NodeFileNames<'n> {
     pub log: &'n str,
 }
 
-/// Looks at the files of a node before it starts, and answers how many milliseconds its shortest round takes.
+/// What is known of a node before it starts.
+#[derive(Drop)]
+pub struct Ahead {
+    /// How many milliseconds its shortest round takes, or 0.
+    pub round: u64,
+    /// The keys of all validators, if they can be read.
+    pub keys: Option<Keys>,
+}
+
+impl Ahead {
+    /// Nothing is known.
+    pub fn nothing() -> Ahead {
+        Ahead {
+            round: 0,
+            keys: None,
+        }
+    }
+}
+
+/// Looks at the files of a node before it starts.
 ///
 /// The log's entries that count are held against the keys. Where one isn't signed by them, the log is refused as if
 /// another process had it, and the place of the entry is told. Otherwise its entries are counted from now on.
-pub fn look_ahead(rt: HostRuntime, names: NodeFileNames<'_>, log: &LogFile) -> u64 {
+pub fn look_ahead(rt: HostRuntime, names: NodeFileNames<'_>, log: &LogFile) -> Ahead {
     let alloc = rt.alloc();
     let Some(config) = settings(rt, alloc, names.config) else {
-        return 0;
+        return Ahead::nothing();
     };
-    let used = match checked_entries(rt, alloc, names, log, &config) {
+    let keys = keys_of(rt, alloc, names.keys, &config);
+    if let Some(keys) = &keys {
+        look_at_log(rt, names.log, keys, log, &config);
+    }
+    Ahead {
+        round: round_of(&config),
+        keys,
+    }
+}
+
+/// Holds the log against the keys, and counts its entries.
+fn look_at_log(rt: HostRuntime, name: &str, keys: &Keys, log: &LogFile, config: &Config)
+    requires { config_fault config.now ≡ None }
+{
+    let used = match checked_entries(rt, name, keys, log, config) {
         Checked::Signed(used) => used,
         Checked::Unsigned(at) => {
-            let name = names.log;
             let _ = eprintln!(rt;
                 "highway: {name}: the entry at byte {at} isn't signed by the keys"
             );
             log.refuse(REMEDY);
             0
         }
-        Checked::Unknown => return round_of(&config),
+        Checked::Unknown => return,
     };
     log.count_entries(&rt, u64::from(config.max_records), used);
-    round_of(&config)
 }
 
 /// What is known of a log.
@@ -90,23 +121,25 @@ fn settings(rt: HostRuntime, alloc: Global, name: &str) -> Option<Config>
     read_settings(alloc, text.as_slice()).ok()
 }
 
+/// The keys of all validators.
+fn keys_of(rt: HostRuntime, alloc: Global, name: &str, config: &Config) -> Option<Keys>
+    requires { config_fault config.now ≡ None }
+{
+    let text = plain_bytes(rt, alloc, name)?;
+    Keys::read(alloc, text.as_slice(), config.weights.len() as u32).ok()
+}
+
 /// Holds the entries of the log that count against the keys, if it is a log of these settings.
 fn checked_entries(
     rt: HostRuntime,
-    alloc: Global,
-    names: NodeFileNames<'_>,
+    name: &str,
+    keys: &Keys,
     log: &LogFile,
     config: &Config,
 ) -> Checked
     requires { config_fault config.now ≡ None }
 {
-    let Some(text) = plain_bytes(rt, alloc, names.keys) else {
-        return Checked::Unknown;
-    };
-    let Ok(keys) = Keys::read(alloc, text.as_slice(), config.weights.len() as u32) else {
-        return Checked::Unknown;
-    };
-    match fs::metadata(&rt, names.log) {
+    match fs::metadata(&rt, name) {
         Ok(metadata) if metadata.is_file() => {}
         Ok(_) => return Checked::Unknown,
         Err(_) => return Checked::Signed(0),
@@ -115,13 +148,14 @@ fn checked_entries(
     if log.hold(&rt).is_err() {
         return Checked::Unknown;
     }
-    read_entries(rt, alloc, names.log, &keys, config)
+    read_entries(rt, name, keys, config)
 }
 
 /// Reads the log of this name, and holds it against the keys.
-fn read_entries(rt: HostRuntime, alloc: Global, name: &str, keys: &Keys, config: &Config) -> Checked
+fn read_entries(rt: HostRuntime, name: &str, keys: &Keys, config: &Config) -> Checked
     requires { config_fault config.now ≡ None }
 {
+    let alloc = rt.alloc();
     let mut files = HostFiles::new(rt);
     let Ok(mut reader) = LogReader::begin(alloc, &mut files, name) else {
         return Checked::Unknown;

@@ -2,35 +2,23 @@
 use Rattle.std.specs.Prelude.{ℕ, Bool, true, false, List, Option, None, Some}
 use Rattle.std.specs.List.{position}
 use Rattle.hw_host.specs.declared.waiting.Standing.{Standing}
-use Rattle.hw_host.specs.declared.waiting.Standing.TheVariants.{Silent, Known, Speaking, Resting, Suspect, Gone}
+use Rattle.hw_host.specs.declared.waiting.Standing.TheVariants.{Known, Speaking, Suspect}
 use Rattle.hw_host.specs.declared.waiting.Visitor.{Visitor}
 
 -- whether one said something, and is known
 abbrev pub is_known : Standing → Bool
-is_known Silent = false
 is_known Known = true
-is_known Speaking = false
-is_known Resting = false
-is_known Suspect = false
-is_known Gone = false
+is_known _ = false
 
 -- whether one said something, isn't known, and may be served
 abbrev pub is_speaking : Standing → Bool
-is_speaking Silent = false
-is_speaking Known = false
 is_speaking Speaking = true
-is_speaking Resting = false
-is_speaking Suspect = false
-is_speaking Gone = false
+is_speaking _ = false
 
 -- whether one said something, and is suspect
 abbrev pub is_suspect : Standing → Bool
-is_suspect Silent = false
-is_suspect Known = false
-is_suspect Speaking = false
-is_suspect Resting = false
 is_suspect Suspect = true
-is_suspect Gone = false
+is_suspect _ = false
 
 -- the first place, or where there is none the second
 abbrev pub or_else : Option ℕ → Option ℕ → Option ℕ

@@ -10,9 +10,11 @@ use crate::known::Known;
 use crate::log::LogFile;
 use crate::patience::Patience;
 use crate::session::Session;
+use crate::signatures::Signatures;
 use crate::suspects::Suspects;
 use crate::waiting::{Visitor, WaitingRoom};
 use hw_io::{Door, DoorNumbers, IoFault};
+use hw_keys::Keys;
 use std::alloc::Global;
 use std::io::ErrorKind;
 use std::net::{IpAddr, Net, OpenListener, OpenStream, TcpListener};
@@ -75,6 +77,9 @@ const LONGEST_PAUSE: u64 = 5_000;
 /// is sent. So no unit that a node made goes out before it is on the disk, and what was reported to a peer as
 /// taken is kept. What is appended until then needs one sync.
 ///
+/// Where the door has the keys of a network, it is reported there too that a peer sent a vertex that isn't signed by them,
+/// once a minute at most.
+///
 /// Each error of the system is `Failed` and counted, or `OutOfMemory`. It is reported on standard error, with
 /// the peer's address.
 ///
@@ -96,6 +101,7 @@ pub struct HostDoor<'a, R: Net + Voice> {
     suspects: Suspects,
     known: Known,
     is_for_meetings: bool,
+    signatures: Signatures,
     complaints: Complaints<R>,
     numbers: DoorNumbers,
 }
@@ -111,9 +117,14 @@ struct Peer {
 }
 
 impl Peer {
-    fn unknown() -> Peer {
+    /// Who may come to this place, if the door listens at one: faults are told under its name until somebody came.
+    fn who_may_come(alloc: Global, place: Option<&str>) -> Peer {
+        let name = match place {
+            Some(place) => String::from_str(alloc, place).ok(),
+            None => None,
+        };
         Peer {
-            name: None,
+            name,
             dialled: None,
             came_from: None,
             appended: 0,
@@ -173,7 +184,7 @@ impl<'a, R: Net + Voice> HostDoor<'a, R> {
             listener: None,
             waiting: WaitingRoom::new(runtime.alloc()),
             session: None,
-            peer: Peer::unknown(),
+            peer: Peer::who_may_come(runtime.alloc(), None),
             addresses: Addresses::new(runtime.alloc()),
             failures: Failures::new(runtime.alloc()),
             refusals: 0,
@@ -181,6 +192,7 @@ impl<'a, R: Net + Voice> HostDoor<'a, R> {
             suspects: Suspects::new(runtime.alloc()),
             known: Known::new(runtime.alloc()),
             is_for_meetings: false,
+            signatures: Signatures::new(runtime.alloc(), None),
             complaints: Complaints::new(runtime),
             numbers: DoorNumbers::new(),
         }
@@ -191,6 +203,14 @@ impl<'a, R: Net + Voice> HostDoor<'a, R> {
         ensures { result ≡ record self.entry { log = result.log } }
     {
         HostDoor { log, ..self }
+    }
+
+    /// The same door. A vertex that comes is to be signed by these keys, if there are some.
+    pub fn holding(self, keys: Option<Keys>) -> HostDoor<'a, R>
+        ensures { result ≡ record self.entry { signatures = result.signatures } }
+    {
+        let signatures = Signatures::new(self.runtime.alloc(), keys);
+        HostDoor { signatures, ..self }
     }
 
     /// The same door, for meetings: a peer is waited for as long as it moves something.
@@ -222,9 +242,9 @@ impl<'a, R: Net + Voice> HostDoor<'a, R> {
         ensures numbers { self.new.numbers ≡ self.old.numbers }
     {
         self.leave();
-        self.peer = Peer::unknown();
-        let visitor = self.next_visitor()?;
         let alloc = self.runtime.alloc();
+        self.peer = Peer::who_may_come(alloc, self.place);
+        let visitor = self.next_visitor()?;
         let address = visitor.address;
         self.peer = Peer::who_came(alloc, address, self.appended());
         let now = Instant::now(&self.runtime)?;
@@ -366,13 +386,26 @@ impl<'a, R: Net + Voice> HostDoor<'a, R> {
         if buf.is_empty() && self.session.is_some() {
             return Ok(0);
         }
+        self.judge();
         if !self.is_ahead() {
             self.flush()?;
         }
-        match &mut self.session {
-            Some(session) => session.read(&self.runtime, buf),
-            None => Err(ErrorKind::NotConnected.into()),
-        }
+        let count = match &mut self.session {
+            Some(session) => session.read(&self.runtime, buf)?,
+            None => return Err(ErrorKind::NotConnected.into()),
+        };
+        let appended = self.appended();
+        self.signatures.hear(&buf[..count], appended);
+        Ok(count)
+    }
+
+    /// Judges the frame that came last, once the node has done with it.
+    fn judge(&mut self)
+        ensures { self.new ≡ record self.old { signatures = self.new.signatures } }
+    {
+        let appended = self.appended();
+        self.signatures
+            .judge(&self.runtime, self.peer.called(), appended);
     }
 
     /// Whether bytes of the session were read ahead.
@@ -390,6 +423,7 @@ impl<'a, R: Net + Voice> HostDoor<'a, R> {
         ensures stays { is_some self.new.session ≡ is_some self.old.session }
         ensures numbers { self.new.numbers ≡ self.old.numbers }
     {
+        self.judge();
         let is_full = match &self.session {
             Some(session) => session.is_full(),
             None => return Err(ErrorKind::NotConnected.into()),
@@ -476,6 +510,8 @@ impl<'a, R: Net + Voice> HostDoor<'a, R> {
         ensures gone { self.new.session ≡ None }
         ensures numbers { self.new.numbers ≡ self.old.numbers }
     {
+        self.judge();
+        self.signatures.forget();
         self.part();
         self.note_visit();
         if matches!(&self.session, Some(session) if session.has_failed()) {

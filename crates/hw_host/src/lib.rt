@@ -22,6 +22,7 @@ mod networks;
 mod node_files;
 mod patience;
 mod session;
+mod signatures;
 mod suspects;
 mod told_files;
 mod values;

@@ -7,6 +7,8 @@ use std::rt;
 
 /// The files of a runtime, as `HostFiles` has them, for a consumer. Each failure is reported on standard error, with
 /// the file's name and the system's reason. A consumer that fails is dropped, so there is no need to count them.
+///
+/// It isn't `NodeFiles` without a log, since a consumer is a trait object, which can't hold what has a lifetime.
 #[derive(Drop)]
 pub struct ToldFiles<R: rt::Files + Eprint + Copy> {
     runtime: R,

@@ -18,6 +18,38 @@ write(words[2], b'HWLG' + bytes(200))
 time.sleep(60)
 """
 WAITS = "time.sleep(60)"
+# A hub that can't listen does what a test says.
+LISTENS_OR = """import socket
+host, _, port = words[3].rpartition(':')
+try:
+    door = socket.create_server((host, int(port)))
+    write(words[2], b'HWLG' + bytes(200))
+    time.sleep(60)
+except (OSError, ValueError):
+    {}
+"""
+# Who serves and who dials hears all that the other says, and says on standard error what a test says.
+HEARS = f"""import socket
+host, port = words[3].rsplit(':', 1)
+door, count = socket.create_server((host, int(port))), 0
+write(words[2], b'HWLG' + bytes(200))
+while True:
+    with door.accept()[0] as link:
+        said = b''.join(iter(lambda: link.recv(65536), b''))
+    came = said.count({ordinary_faults.UNSIGNED!r})
+    if came:
+        told, count = count + 1 if count == 0 else count + came, count + came
+        print({{}}, file=sys.stderr, flush=True)
+"""
+DIALS = """import socket
+host, port = words[-1].rsplit(':', 1)
+with socket.create_connection((host, int(port))) as link:
+    link.shutdown(socket.SHUT_WR)
+    while link.recv(65536): pass
+who, told = words[-1], 1
+print({}, file=sys.stderr)
+"""
+TELLS = """f"highway: {}: a vertex isn't signed by the keys, and is refused ({{told}} so far)\""""
 
 
 class Kinds(unittest.TestCase):
@@ -47,9 +79,15 @@ class Kinds(unittest.TestCase):
 
     def test_values_as_a_log_have_to_be_refused_before_a_byte_is_written(self):
         refuses = "print('read fault'); sys.exit(4)"
-        self.assertTrue(self.seen("values-as-log", run=refuses).is_well)
-        self.assertFalse(self.seen("values-as-log", run=f"write(words[2], b'HWLG'); {refuses}").is_well)
-        self.assertFalse(self.seen("values-as-log", run="sys.exit(6)").is_well)
+        nodes = {name: refuses for name in ("run", "mend", "replay")}
+        self.assertTrue(self.seen("values-as-log", **nodes).is_well)
+        for bad in (
+            {"run": f"write(words[2], b'HWLG'); {refuses}"},
+            {"run": "sys.exit(6)"},
+            {"mend": f"write(words[1], b'HWLG'); {refuses}"},
+            {"replay": "pass"},
+        ):
+            self.assertFalse(self.seen("values-as-log", **nodes | bad).is_well)
 
     def test_a_port_that_is_taken_has_to_be_waited_for(self):
         waits = (
@@ -69,11 +107,33 @@ time.sleep(60)
         self.assertTrue(self.seen("taken-port", serve=waits).is_well)
         self.assertFalse(self.seen("taken-port").is_well)
 
-    def test_a_renamed_log_has_to_end_the_node(self):
-        ends = "write(words[2], b'HWLG')\nwhile os.path.exists(words[2]): time.sleep(0.02)\nsys.exit({})"
+    def test_a_hub_that_can_not_listen_has_to_wait_and_say_little(self):
+        self.assertTrue(self.seen("wrong-address", serve=LISTENS_OR.format(WAITS)).is_well)
+        for instead in ("sys.exit(6)", "while True: print('session')"):
+            self.assertFalse(self.seen("wrong-address", 2, serve=LISTENS_OR.format(instead)).is_well)
+
+    def test_a_vertex_that_is_not_signed_has_to_be_told_once_by_each_kind(self):
+        tells = [TELLS.format(who) for who in ("127.0.0.1", "{who}")]
+        nodes = {
+            name: HEARS.format(tells[0]) if name in ("serve", "host") else DIALS.format(tells[1])
+            for name in ("serve", "host", "run", "meet")
+        }
+        with mock.patch.object(ordinary_faults.Trial, "run", lambda trial, network, seconds=None: network.run_for(0.3)):
+            self.assertTrue(self.seen("unsigned-vertex", **nodes).is_well)
+            for name in nodes:
+                silent = HEARS.format("''") if name in ("serve", "host") else DIALS.format("''")
+                self.assertFalse(self.seen("unsigned-vertex", **nodes | {name: silent}).is_well)
+
+    def test_a_log_that_is_renamed_or_cut_has_to_end_the_node(self):
+        makes = "write(words[2], b'HWLG'); write(words[2] + '.lock', b'')\n"
+        ends, goes_on = makes + "while {}: time.sleep(0.02)\nsys.exit(5)", f"{makes}{WAITS}"
+        is_there, is_whole = "os.path.exists(words[2])", "os.path.getsize(words[2])"
+        refuses = "print('bad magic'); sys.exit(2)"
         with mock.patch.object(ordinary_faults.Trial, "run", lambda trial, network, seconds=None: network.run_for(1)):
-            self.assertTrue(self.seen("renamed-log", 5, run=ends.format(5)).is_well)
-            self.assertFalse(self.seen("renamed-log", run=f"write(words[2], b'HWLG'); {WAITS}").is_well)
+            for kind, test in (("renamed-log", is_there), ("renamed-both", is_there), ("cut-log", is_whole)):
+                self.assertTrue(self.seen(kind, 5, run=ends.format(test), replay=refuses).is_well)
+                self.assertFalse(self.seen(kind, run=goes_on, replay=refuses).is_well)
+            self.assertFalse(self.seen("cut-log", 5, run=ends.format(is_whole), replay="pass").is_well)
 
 
 class Words(unittest.TestCase):
