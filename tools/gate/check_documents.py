@@ -7,7 +7,9 @@ where a page names what isn't there:
 - a link to a file of the repository, or a path in backquotes that begins with a folder of it;
 - a crate: a word that begins with hw_ and isn't in crates.txt;
 - a name in backquotes, as `deliver` or `Core::deliver`, whose words stand nowhere in the sources;
-- a crate that no row of docs/ARCHITECTURE.md begins with.
+- a crate that no row of docs/ARCHITECTURE.md begins with;
+- a source of a crate with `unsafe` that docs/PROVED.md doesn't name;
+- an `unsafe impl` whose proof isn't there: without that file the proof of the crate passes, too.
 
 It also says lines above 120 columns, tables and quoted text left out, and the marks that a merge leaves. The status is
 1 if anything was said, and 2 if the repository can't be read."""
@@ -25,6 +27,8 @@ QUOTED = re.compile(r"`([^`]+)`")
 CRATE = re.compile(r"\bhw_[a-z0-9_]*[a-z0-9]\b")
 NAME = re.compile(r"[A-Za-z_][A-Za-z0-9_]*(?:::[A-Za-z_][A-Za-z0-9_]*)*")
 MERGE = re.compile(r"<{7} |={7}$|>{7} ")
+UNSAFE = re.compile(r"^(?!\s*//).*\bunsafe\b", re.MULTILINE)
+CROSSES = re.compile(r"^\s*unsafe impl(?:<[^>]*>)? (\w+) for (\w+)", re.MULTILINE)
 # Names of others, and the shortest name that is no variable of a formula.
 OTHERS = {"highway_core"}
 SHORTEST = 3
@@ -119,6 +123,29 @@ def lacking_rows(root, crates):
     return [f"docs/ARCHITECTURE.md: no row names the crate {it}" for it in crates if it not in named]
 
 
+def sources_of(root, crates):
+    """Each source of the crates: its path, the folder of what is proved of it by hand, and its text."""
+    for crate in crates:
+        folder = root / "crates" / crate
+        for path in sorted((folder / "src").rglob("*.rt")):
+            module = path.relative_to(folder / "src").with_suffix("")
+            proofs = folder / "proofs" / (module.parent if module.name in ("lib", "main") else module)
+            yield path.relative_to(root), proofs, path.read_text(encoding="utf-8")
+
+
+def lacking_trust(root, crates):
+    """What is unsafe in the sources of the crates, and has no line in docs/PROVED.md or no proof."""
+    page = root / "docs" / "PROVED.md"
+    said = page.read_text(encoding="utf-8") if page.is_file() else None
+    for path, proofs, text in sources_of(root, crates):
+        if said is not None and UNSAFE.search(text) and str(path) not in said:
+            yield f"docs/PROVED.md: nothing is said of {path}, which has `unsafe`"
+        for trait, kind in CROSSES.findall(text):
+            proof = proofs / kind / "TheSendSync" / f"{trait}.antt"
+            if not proof.is_file():
+                yield f"{path}: `unsafe impl {trait} for {kind}` has no proof {proof.relative_to(root)}"
+
+
 def main(arguments=None):
     parser = argparse.ArgumentParser(description=__doc__, formatter_class=argparse.RawDescriptionHelpFormatter)
     parser.add_argument("root", nargs="?", default=Path(__file__).resolve().parents[2], type=Path, metavar="ROOT")
@@ -127,7 +154,7 @@ def main(arguments=None):
         print(f"check_documents: {words.root} has no crates.txt", file=sys.stderr)
         return 2
     crates = crates_of(words.root)
-    faults = lacking_rows(words.root, crates)
+    faults = [*lacking_rows(words.root, crates), *lacking_trust(words.root, crates)]
     known = words_of(words.root)
     for page in pages_of(words.root):
         faults += faults_of(page, words.root, crates, known)

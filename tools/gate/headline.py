@@ -103,10 +103,11 @@ HEAD = """# What `replay`, `explain` and `audit` write of logs: the definitions
 `reports` where files hold bytes (`HoldBytes`). The files of the built program tell nothing, so of them the clauses say
 nothing by themselves. [PROVED.md](PROVED.md#the-program) has the argument why they hold there too.
 
-Not listed: the other statuses, whose texts are worked out (clauses `said` and `line`, by `run_of`). Failing reads and
-writes, memory that runs out, and consumers. The other commands. And {types} types of the code, as `Digest`, and {words} words
-of the toolchain's library, as `filter`. [DEFINITIONS.md](DEFINITIONS.md) explains the protocol's part with examples,
-and how to read a definition. [THEOREM.md](THEOREM.md) has the theorems in words.
+Not listed: whom a conflict spares (clause `innocent`). The other statuses, whose texts are worked out (clauses `said`
+and `line`, by `run_of`). Failing reads and writes, memory that runs out, and consumers. The other commands. And {types}
+types of the code, as `Digest`, and {words} words of the toolchain's library, as `filter`.
+[DEFINITIONS.md](DEFINITIONS.md) explains the protocol's part with examples, and how to read a definition.
+[THEOREM.md](THEOREM.md) has the theorems in words.
 
 {parts}
 In each part a definition uses those above it, or of parts above; what it takes from a part below is named there.

@@ -15,7 +15,7 @@ fault is
 The second form reads a trace that `strace -y` wrote of one node; LOG is the name of its log as the trace has it. The
 status is 0 where there is no fault, also where strace isn't installed and so nothing was tried, and 1 otherwise.
 
-It stands outside the gate and proves nothing."""
+The gate runs it where strace is; it proves nothing."""
 
 import argparse
 import os

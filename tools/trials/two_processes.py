@@ -12,7 +12,7 @@ once more alone, and then the logs of the hub and of validator 0 are read: each 
 nothing may be parked, the two logs have to agree, and nobody may be faulty. So a log reads as what was written. The
 status is 0 where that is so each time.
 
-`--jobs` tries at a time; it stands outside the gate and proves nothing."""
+`--jobs` tries at a time. The gate runs `together` once; it proves nothing."""
 
 import argparse
 import concurrent.futures

@@ -3,7 +3,7 @@
 ghost use Rattle.hw_replay.specs.Fates.{Sight};
 ghost use Rattle.hw_agreement.specs.Lives.{WhoLivedSignsOnce, NoInnocentIsNamed, HostsAgree};
 ghost use Rattle.hw_agreement.specs.Logs.{LogsAgree, NodesLogsAgree, LivesLogsAgree};
-ghost use Rattle.hw_agreement.specs.Members.{LivesBegin, OwnJournalsAreLived, CopiesAreThere, OneIsHeavy, FirstIsFaulty};
+ghost use Rattle.hw_agreement.specs.Members.{LivesBegin, OwnJournalsAreLived, CopiesAreThere, OneIsHeavy};
 ghost use Rattle.hw_agreement.specs.Runs.{TurnsAreCalls, ServesAreCalls, HostsAreCalls, MeetsAreCalls, NewRunsBegin, LaterRunsGoOn};
 ghost use Rattle.hw_agreement.specs.RunMembers.{TurnIsTaken, SessionsAreServed};
 ghost use Rattle.hw_agreement.specs.Reports.{AuditsAccuseRightly, ChecksAccuseRightly, EraAuditsAccuseRightly};
@@ -50,14 +50,13 @@ pub fn reports_accuse_rightly()
 ///
 /// From each node that is sound and ready there is a life of whatever calls. Its journal at any moment is such that the
 /// validator has lived. Two copies of its log meet the premises on the logs of two validators, where it weighs enough.
-/// Where validator 0 of three equivocates, validators 1 and 2 meet those on journals. There is a turn in which a
-/// validator makes its unit, and each sound node has a session with a peer that sends nothing.
+/// There is a turn in which a validator makes its unit, and each sound node has a session with a peer that sends
+/// nothing. hw_samples has validators beside one that equivocates.
 pub fn hosts_are_there()
     ensures lives { LivesBegin }
     ensures own { OwnJournalsAreLived }
     ensures copies { CopiesAreThere }
     ensures heavy { OneIsHeavy }
-    ensures faulty { FirstIsFaulty }
     ensures turn { TurnIsTaken }
     ensures session { SessionsAreServed }
 {}

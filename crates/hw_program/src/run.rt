@@ -14,6 +14,7 @@ ghost use Rattle.hw_commands.specs.Fed.{CallsNone, ConsumersAfter, IsTextOf};
 ghost use Rattle.hw_commands.specs.Shown.{IsShown, IfChecks, ShowsCertificate, ContradictsCertificate};
 ghost use Rattle.hw_commands.specs.Run.{IsStatus, IsWorkedStatus, IsServiceStatus, IsDone, IsSaid, IsRefusal, WritesLine, WritesText, WritesPrefix, EndsWithoutMemory, EndsAppending};
 ghost use Rattle.hw_theorem.specs.Reports.{HoldBytes, CanBeReported, SaysOfLogs};
+ghost use Rattle.hw_agreement.specs.Reports.{AccusesNoInnocent};
 ghost use Rattle.hw_program.specs.Services.{service_of, names_in, IsWorkedOut, IsNoCommand, UsesNoClock, maker_in};
 ghost use Rattle.hw_program.specs.Serving.{service};
 ghost use Rattle.hw_program.specs.Served.{around, counts, output, RunsNode, CanRun, IsRunEnd, AsksNoValidator, OnlyLogChanges};
@@ -95,6 +96,10 @@ pub fn highway<F: Files, S: Sink, C: Clock, D: Door>(
     // Where two logs, or a log and a certificate, report conflicting final blocks, the audit names culprits, each by
     // two signed units, and they weigh more than the threshold.
     ensures conflict { IsTrue F.tells → result ≡ 3 → ReportsConflict words.now (F.held files.old) (run_of words.now (F.held files.old)).text ⊎ ContradictsCertificate words.now (F.held files.old) (run_of words.now (F.held files.old)).text ⊎ ReportsEraConflict words.now (F.held files.old) (run_of words.now (F.held files.old)).text }
+
+    // Of a conflict that is written, nobody is a culprit whose node lived as a validator's does, with stops and starts,
+    // and for whom nobody else signed.
+    ensures innocent { IsTrue F.tells → result ≡ 3 → AccusesNoInnocent words.now (F.held files.old) (S.taken out.old) (S.taken out.new) }
 
     // Where a check has one of these statuses, the certificate's vertices alone make its block stand, and by the keys
     // each is signed.

@@ -1,6 +1,6 @@
 //! The members.
 
-ghost use Rattle.hw_samples.specs.{Cluster.{ClusterIsReached}, Light.{YesMeetsAnother}, EraNodes.{EraNodesAreThere}, Files.{LogsAreInConflict, CertificatesAreInFiles}};
+ghost use Rattle.hw_samples.specs.{Cluster.{ClusterIsReached}, Light.{YesMeetsAnother}, EraNodes.{EraNodesAreThere}, Files.{LogsAreInConflict, CertificatesAreInFiles}, Honest.{FirstIsFaulty}};
 
 /// Three nodes are a cluster beside a validator that may be faulty, and two of them have the block that one made.
 pub fn a_cluster_is_reached()
@@ -25,4 +25,9 @@ pub fn logs_are_in_conflict()
 /// A certificate is asked of a log, and another is checked by keys, against a log in conflict with it.
 pub fn certificates_are_in_files()
     ensures { CertificatesAreInFiles }
+{}
+
+/// Validator 0 of three equivocates. Validators 1 and 2 lived, and weigh enough for agreement.
+pub fn the_first_is_faulty()
+    ensures { FirstIsFaulty }
 {}

@@ -15,17 +15,13 @@ use Rattle.hw_types.proofs.ClosureLaws.{Among-filter, filter-Among}
 use Rattle.hw_types.proofs.PastLaws.{any_of}
 use Rattle.hw_types.proofs.StableLaws.{and_whole}
 use Rattle.hw_types.proofs.WordsLaws.{range_in}
-use Rattle.hw_types.proofs.OrderLaws.{unit_same, unit_self}
+use Rattle.hw_types.proofs.OrderLaws.{unit_same}
 use Rattle.hw_types.proofs.OrderedLaws.{all_among, among_all}
 use Rattle.hw_safety.proofs.VerdictWeightLaws.{rise}
+use Rattle.hw_culprits.proofs.PairLaws.{pair_is}
 use Rattle.hw_theorem.specs.Equivocators.{AreTwo, Equivocated, ShowsTwo, AreEquivocators, CulpritsAreEquivocators}
-use Rattle.hw_theorem.proofs.PairLaws.{pair_shows}
 
 -- the test tells two different units apart
-
-other : (u w : WireUnit) → unit_eq u w ≡ false → u ≡ w → ⊥
-other u w differ same = absurd (let both : true ≡ false = sym (unit_self u) ∙ ap (unit_eq u) same ∙ differ in cc)
-
 apart : (u w : WireUnit) → (u ≡ w → ⊥) → unit_eq u w ≡ false
 apart u w differ = go (unit_eq u w) refl
   where
@@ -46,7 +42,7 @@ module _ (s : Setting) (left right : List Vertex) where
 
   shows : (c : Culprit) → IsShown s left right c → ShowsTwo s left right c
   shows c is =
-      let p = pair_shows xs c.validator is.first is.second is.pair in
+      let p = pair_is xs c.validator is.first is.second is.pair in
       let one : SignedAs (left ++ right) is.first c.first = is.first_bytes in
       let two : SignedAs (left ++ right) is.second c.second = is.second_bytes in
       record {
@@ -57,10 +53,10 @@ module _ (s : Setting) (left right : List Vertex) where
         are = record {
           first_shown = record { stands = one.1; node = is.first; shown = p.0; unit_is = one.2 };
           second_shown = record { stands = two.1; node = is.second; shown = p.1; unit_is = two.2 };
-          first_by = ap (λ (u : WireUnit). u.creator) one.2 ∙ p.2;
-          second_by = ap (λ (u : WireUnit). u.creator) two.2 ∙ p.3;
-          one_number = ap (λ (u : WireUnit). u.seq) one.2 ∙ p.4 ∙ sym (ap (λ (u : WireUnit). u.seq) two.2);
-          differ = λ same. other is.first.unit is.second.unit p.5 (sym one.2 ∙ same ∙ two.2);
+          first_by = ap (λ (u : WireUnit). u.creator) one.2 ∙ p.2.first_by;
+          second_by = ap (λ (u : WireUnit). u.creator) two.2 ∙ p.2.second_by;
+          one_number = ap (λ (u : WireUnit). u.seq) one.2 ∙ p.2.one_number ∙ sym (ap (λ (u : WireUnit). u.seq) two.2);
+          differ = λ same. p.2.differ (sym one.2 ∙ same ∙ two.2);
         };
       }
 

@@ -1,7 +1,6 @@
 pub mod CountLaws
 pub mod DrawnLaws
 pub mod EqualLaws
-pub mod PairLaws
 pub mod EquivocatorLaws
 pub mod LogLaws
 pub mod ReportLaws

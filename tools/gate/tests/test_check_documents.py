@@ -76,6 +76,23 @@ class Documents(unittest.TestCase):
         self.put("README.md", "a " * 60 + "[b](docs/ARCHITECTURE.md)\n")
         self.assertIn("README.md:1: has 145 columns", self.said()[1])
 
+    def test_an_unsafe_impl_without_its_proof(self):
+        self.put("crates/hw_low/src/far/hand.rt", "unsafe impl Send for Hand {}\n")
+        self.put("crates/hw_high/src/lib.rt", "unsafe impl<T> Sync for Top {}\n")
+        self.assertIn("has no proof crates/hw_low/proofs/far/hand/Hand/TheSendSync/Send.antt", self.said()[1])
+        self.assertIn("has no proof crates/hw_high/proofs/Top/TheSendSync/Sync.antt", self.said()[1])
+        self.put("crates/hw_low/proofs/far/hand/Hand/TheSendSync/Send.antt", "send = tt\n")
+        self.put("crates/hw_high/proofs/Top/TheSendSync/Sync.antt", "sync = tt\n")
+        self.assertEqual(self.said()[0], 0)
+
+    def test_unsafe_code_that_no_page_tells(self):
+        self.put("docs/PROVED.md", "Trusted: `crates/hw_low/src/raw.rt`.\n")
+        self.put("crates/hw_low/src/raw.rt", "    unsafe { at() }\n")
+        self.put("crates/hw_high/src/lib.rt", "// Nothing is unsafe here.\n")
+        self.assertEqual(self.said()[0], 0)
+        self.put("crates/hw_high/src/lib.rt", '#[unsafe(no_mangle)]\npub extern "C" fn top() {}\n')
+        self.assertIn("nothing is said of crates/hw_high/src/lib.rt", self.said()[1])
+
     def test_no_repository(self):
         self.assertEqual(check_documents.main([str(self.root / "docs")]), 2)
 

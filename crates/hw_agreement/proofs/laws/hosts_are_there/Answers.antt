@@ -1,4 +1,4 @@
-use Rattle.hw_agreement.proofs.MemberLaws.{lives_begin, own_lived, copies_are_there, one_is_heavy, first_is_faulty}
+use Rattle.hw_agreement.proofs.MemberLaws.{lives_begin, own_lived, copies_are_there, one_is_heavy}
 use Rattle.hw_agreement.proofs.RunMemberLaws.{turn_is_taken, sessions_are_served}
 use Rattle.hw_agreement.proofs.laws.hosts_are_there.Goals as goal
 
@@ -13,9 +13,6 @@ returns-clause-copies c = copies_are_there
 
 pub returns-clause-heavy : goal.returns-clause-heavy
 returns-clause-heavy c = one_is_heavy
-
-pub returns-clause-faulty : goal.returns-clause-faulty
-returns-clause-faulty c = first_is_faulty
 
 pub returns-clause-turn : goal.returns-clause-turn
 returns-clause-turn c = turn_is_taken

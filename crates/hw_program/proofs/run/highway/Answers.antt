@@ -8,6 +8,7 @@ use Rattle.hw_program.specs.Served.{AsksNoValidator, CanRun, OnlyLogChanges}
 use Rattle.hw_program.proofs.NodeLaws.{node_status, node_link, node_read_fault, node_about, node_write_fault, node_reads, node_appended, node_read_line, node_usage_line, node_usage, node_validator, run_end, service_is_status, service_not_three, worked_not_six}
 use Rattle.hw_program.proofs.ServiceLaws.{service_no_request, asked_so, if_asked, is_asked, not_worked_out, if_none, none_so, none_asked, none_changes, checks_none}
 use Rattle.hw_theorem.proofs.ClauseLaws.{says_of_logs, reported_reads, reported_done}
+use Rattle.hw_agreement.proofs.ReportLaws.{accuses_no_innocent}
 use Rattle.hw_program.proofs.LogLaws.{node_log}
 use Rattle.hw_program.proofs.ReportLaws.{node_says_none, reported_is_worked}
 use Rattle.hw_program.proofs.run.highway.Goals as goal
@@ -127,6 +128,9 @@ returns-in-Node-clause-allowed g c = λ tells may. absurd (subst (λ o. IsAllowe
 pub returns-in-Node-clause-conflict : goal.returns-in-Node-clause-conflict
 returns-in-Node-clause-conflict g c = λ tells three. absurd (service_not_three _ (node_status _ _ _ _ _ _ c.run_node.ensures.node) three)
 
+pub returns-in-Node-clause-innocent : goal.returns-in-Node-clause-innocent
+returns-in-Node-clause-innocent g c = λ tells three. absurd (service_not_three _ (node_status _ _ _ _ _ _ c.run_node.ensures.node) three)
+
 pub returns-in-Node-clause-reports : goal.returns-in-Node-clause-reports
 returns-in-Node-clause-reports g c = λ tells fits done. node_says_none _ _ _ _ _ (λ worked. not_worked_out _ _ c.in-Node.ensures.node worked)
 
@@ -200,6 +204,9 @@ returns-in-Work-clause-reads g c = λ worked. c.work.ensures.reads
 
 pub returns-in-Work-clause-appended : goal.returns-in-Work-clause-appended
 returns-in-Work-clause-appended g c = λ worked. c.work.ensures.appended
+
+pub returns-in-Work-clause-innocent : goal.returns-in-Work-clause-innocent
+returns-in-Work-clause-innocent g c = λ tells three. accuses_no_innocent _ _ _ _ _ _ _ _ (c.work.ensures.conflict tells three) (c.work.ensures.text tells (inr three))
 
 pub returns-in-Work-clause-reports : goal.returns-in-Work-clause-reports
 returns-in-Work-clause-reports g c = λ tells fits done. says_of_logs _ _ _ fits _ done _ _ _ _ _ (c.work.ensures.said tells (inl done)) (c.work.ensures.text tells done)
