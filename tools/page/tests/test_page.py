@@ -4,20 +4,15 @@ against the program's, and against an independent reference's answers."""
 import re
 import shutil
 import subprocess
-import tempfile
 import unittest
 from dataclasses import replace
 from pathlib import Path
 
 from lens.log import SignedUnit, digest_of, is_signed, read_keys, read_log, spelled_log, with_digest
-from look.sources import ROOT
-from page.main import MOST, page, policy
-from page.tests.browser import Browser, found
-from page.tests.given import NO_MODULE, module, program
+from page.main import MOST, page
+from page.tests.on_page import DATA, LOGS, OnPage, stored
+from view.parts import policy
 
-DATA = Path(ROOT, "crates/highway/data")
-STORED = Path(ROOT, "bindings/rust/tests/data")
-LOGS = sorted(DATA.glob("*.hwlg"))
 MARKUP = b'</script><script>document.title="x"</script><img src=x onerror=alert(1)>'
 
 
@@ -57,43 +52,7 @@ class Text(unittest.TestCase):
         self.assertNotIn("unsafe-inline", said)
 
 
-@unittest.skipUnless(found(), "there is no Chromium here")
-class InBrowser(unittest.TestCase):
-    @classmethod
-    def setUpClass(cls):
-        if not module():
-            raise unittest.SkipTest(NO_MODULE)
-        cls.room = tempfile.TemporaryDirectory(prefix="page-")
-        cls.addClassCleanup(cls.room.cleanup)
-        cls.file = Path(cls.room.name, "highway.html")
-        cls.file.write_text(page(Path(module()).read_bytes(), "0" * 64, False), encoding="utf-8")
-        cls.browser = Browser()
-        cls.addClassCleanup(cls.browser.close)
-        cls.browser.open(cls.file)
-
-    def write(self, name, data):
-        path = Path(self.room.name, name)
-        path.write_bytes(data)
-        return path
-
-    def dropped(self, of, *paths):
-        self.browser.drop(*paths)
-        self.assertEqual(self.state(), "done", self.shown())
-        return self.browser.printed(of)
-
-    def state(self):
-        return self.browser.value("document.body.dataset.state")
-
-    def shown(self):
-        return self.browser.value("document.body.innerText")
-
-    def said(self, *words):
-        if not program():
-            self.skipTest("there is no program of these sources here: HIGHWAY names one")
-        ran = subprocess.run([program(), *map(str, words)], capture_output=True, text=True, check=False)
-        # The page knows a file by its name, and the program by its path.
-        return re.sub(r"^input \S*/", "input ", ran.stdout)
-
+class AsAPerson(OnPage):
     # ---- against the program
 
     def test_each_log_is_replayed_as_the_program_does(self):
@@ -120,7 +79,7 @@ class InBrowser(unittest.TestCase):
 
     def test_random_pairs_are_audited_as_the_program_does(self):
         left, right, kinds = self.write("left.hwlg", b""), self.write("right.hwlg", b""), set()
-        for data, _ in self.stored("logs.bin", "answers.txt", 4):
+        for data, _ in stored("logs.bin", "answers.txt", 4):
             left.write_bytes(data)
             log = read_log(left)
             pairs = [(entry.verdict, entry.vertex) for entry in log.entries]
@@ -179,26 +138,15 @@ class InBrowser(unittest.TestCase):
 
     # ---- against the stored answers
 
-    def stored(self, logs, answers, each):
-        """Every so manieth log, and the end of its answers: the report, or the limit at which the program ends."""
-        data, at, files = (STORED / logs).read_bytes(), 0, []
-        texts = re.split(r"^case .*\n", (STORED / answers).read_text(), flags=re.M)[1:]
-        while at < len(data):
-            length = int.from_bytes(data[at : at + 4])
-            files.append(data[at + 4 : at + 4 + length])
-            at += 4 + length
-        self.assertEqual(len(files), len(texts))
-        return list(zip(files, texts))[::each]
-
     def test_stored_logs_are_reported_as_the_reference_does(self):
         path = self.write("stored.hwlg", b"")
-        for data, text in self.stored("logs.bin", "answers.txt", 1):
+        for data, text in stored("logs.bin", "answers.txt", 1):
             path.write_bytes(data)
             self.assertEqual(self.dropped("replay", path), [text[text.index("units ") :]])
 
     def test_limits_are_reported_as_the_reference_does(self):
         path = self.write("limits.hwlg", b"")
-        for data, text in self.stored("limits.bin", "limits.txt", 1):
+        for data, text in stored("limits.bin", "limits.txt", 1):
             path.write_bytes(data)
             self.assertEqual(self.dropped("replay", path), [text[text.index("limit ") :]])
 
@@ -252,33 +200,13 @@ class InBrowser(unittest.TestCase):
         name = "<img src=x onerror=alert(1)>.hwlg"
         self.dropped("replay", self.write(name, spelled_log(log.config, [(1, marked)])), self.write("<b>", b"none"))
         self.browser.wait("document.querySelector('[data-unit]') !== null")
-        self.browser.value(
-            "document.querySelector('[data-unit]').dispatchEvent(new MouseEvent('click', {bubbles: true}))"
-        )
+        self.browser.value("document.querySelector('[data-unit]').dispatchEvent(new Event('click', {bubbles: true}))")
+        self.browser.wait("document.querySelector('.picked h3') !== null")
         shown = self.shown()
         for text in (name, MARKUP.decode(), "<b> is no log"):
             self.assertIn(text, shown)
         self.assertEqual(self.browser.value("document.querySelectorAll('img, #said b, #said script').length"), 0)
         self.assertEqual(self.browser.value("document.title"), "Highway: audit in a browser")
-
-    def test_a_unit_is_found(self):
-        path = self.write("found.hwlg", self.stored("logs.bin", "answers.txt", 1)[0][0])
-        [text] = self.dropped("replay", path)
-        block = re.search(r"final 1 (\w+)", text)[1]
-        self.browser.wait("document.querySelector('input.search') !== null")
-        for asked in (block, block[:6], "height 1"):
-            self.browser.value("document.getElementById('unit').hidden = true")
-            self.find(asked)
-            self.browser.wait("!document.getElementById('unit').hidden")
-            self.assertIn(block, self.browser.value("document.getElementById('unit').innerText"))
-        self.find("0#0")
-        self.browser.wait("document.getElementById('unit').innerText.includes('validator 0, number 0')")
-        self.find("9#9")
-        self.browser.wait("document.body.innerText.includes('there is no unit 9#9')")
-
-    def find(self, text):
-        field = "document.querySelector('input.search')"
-        self.browser.value(f"{field}.value = '{text}'; {field}.dispatchEvent(new Event('change'))")
 
     def test_a_long_log_goes_by_pieces_and_is_stopped(self):
         data = (DATA / "both.hwlg").read_bytes()
