@@ -14,6 +14,8 @@ from page.tests.given import NO_MODULE, module, program
 DATA = Path(ROOT, "crates/highway/data")
 STORED = Path(ROOT, "bindings/rust/tests/data")
 LOGS = sorted(DATA.glob("*.hwlg"))
+# The logs of the cases that the program is run on, among them the vectors of independent implementations.
+CASES = sorted(Path(ROOT, "crates/highway_cases/data").glob("*.hwlg"))
 
 
 def stored(logs, answers, each):

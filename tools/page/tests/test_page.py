@@ -1,6 +1,7 @@
 """The page as a person uses it, in Chromium without a window: files are set into its input, and its texts are held
 against the program's, and against an independent reference's answers."""
 
+import random
 import re
 import shutil
 import subprocess
@@ -10,9 +11,10 @@ from pathlib import Path
 
 from lens.log import SignedUnit, digest_of, is_signed, read_keys, read_log, spelled_log, with_digest
 from page.main import MOST, page
-from page.tests.on_page import DATA, LOGS, OnPage, stored
+from page.tests.on_page import CASES, DATA, LOGS, OnPage, stored
 from view.parts import policy
 
+RANDOM, LONG = 200, 100_000_000
 MARKUP = b'</script><script>document.title="x"</script><img src=x onerror=alert(1)>'
 
 
@@ -37,6 +39,19 @@ def with_public_keys(log, room):
     return spelled_log(log.config, pairs), side, "".join(public).encode()
 
 
+def changed(log, choose):
+    """The log's bytes, in one of both versions, with some entries left out, repeated, out of order, or badly signed."""
+    pairs = [(entry.verdict, entry.vertex) for entry in log.entries if choose.random() < 0.9]
+    for _ in range(choose.randrange(4)):
+        pairs.insert(choose.randrange(len(pairs) + 1), choose.choice(pairs or [(1, log.entries[0].vertex)]))
+    for _ in range(choose.randrange(3)):
+        place = choose.randrange(len(pairs) or 1)
+        pairs[place : place + 2] = pairs[place : place + 2][::-1]
+    return spelled_log(
+        log.config, [(verdict and choose.random() < 0.98, vertex) for verdict, vertex in pairs], choose.choice((1, 2))
+    )
+
+
 class Text(unittest.TestCase):
     def test_the_page_reaches_nothing(self):
         text = page(b"module", "0" * 64, False)
@@ -59,6 +74,14 @@ class AsAPerson(OnPage):
         for path in LOGS:
             self.assertEqual(self.dropped("replay", path), [self.said("replay", path)], path.name)
 
+    def test_each_log_of_the_cases_too(self):
+        for path in CASES:
+            if path.read_bytes().startswith(b"HWLG"):
+                self.assertEqual(self.dropped("replay", path), [self.said("replay", path)], path.name)
+            else:
+                self.assertEqual(self.dropped("replay", path), [], path.name)
+                self.assertIn(f"{path.name} is no log, no certificate and no keys.", self.shown())
+
     def test_each_log_of_version_2_too(self):
         for path in LOGS:
             log = read_log(path)
@@ -77,19 +100,21 @@ class AsAPerson(OnPage):
                     path.write_bytes(spelled_log(log.config, changed, version))
                     self.assertEqual(self.dropped("replay", path), [self.said("replay", path)], source.name)
 
-    def test_random_pairs_are_audited_as_the_program_does(self):
+    def test_random_logs_and_pairs_are_answered_as_the_program_does(self):
         left, right, kinds = self.write("left.hwlg", b""), self.write("right.hwlg", b""), set()
-        for data, _ in stored("logs.bin", "answers.txt", 4):
-            left.write_bytes(data)
-            log = read_log(left)
-            pairs = [(entry.verdict, entry.vertex) for entry in log.entries]
-            for part, path in ((0, left), (1, right)):
-                kept = [pair for place, pair in enumerate(pairs) if place < 4 or place % 4 != part]
-                path.write_bytes(spelled_log(log.config, kept, 1 + part))
+        logs = [data for data, _ in stored("logs.bin", "answers.txt", 1)]
+        conflict = [read_log(DATA / name) for name in ("signed.hwlg", "signed-other.hwlg")]
+        for seed in range(RANDOM):
+            choose = random.Random(seed)
+            left.write_bytes(choose.choice(logs))
+            sources = [read_log(left)] * 2 if choose.random() < 0.7 else conflict
+            for path, log in zip((left, right), sources):
+                path.write_bytes(changed(log, choose))
             told = self.said("audit", left, right)
-            self.assertEqual(self.dropped("audit", left, right), [told])
+            self.assertEqual(self.dropped("audit", left, right), [told], seed)
+            self.assertEqual(self.browser.printed("replay"), [self.said("replay", it) for it in (left, right)], seed)
             kinds.add(told.split(" ")[0])
-        self.assertIn("agree", kinds)
+        self.assertLessEqual({"agree", "conflict"}, kinds)
 
     def test_logs_that_have_no_audit_are_answered_as_the_program_does(self):
         whole, other = (DATA / "signed.hwlg").read_bytes(), (DATA / "left.hwlg").read_bytes()
@@ -208,13 +233,24 @@ class AsAPerson(OnPage):
         self.assertEqual(self.browser.value("document.querySelectorAll('img, #said b, #said script').length"), 0)
         self.assertEqual(self.browser.value("document.title"), "Highway: audit in a browser")
 
-    def test_a_long_log_goes_by_pieces_and_is_stopped(self):
+    def test_the_page_reaches_no_network(self):
+        reached = "fetch(%s).then(() => 'reached', (error) => error.name)"
+        self.assertEqual(self.browser.value(reached % "'data:text/plain,x'"), "TypeError")
+        self.browser.value("document.body.append(Object.assign(new Image(), {src: 'data:image/gif;base64,x'}))")
+        self.browser.value("document.body.lastChild.setAttribute('onclick', 'document.title = 1')")
+        self.browser.value("document.body.lastChild.click()")
+        self.assertEqual(self.browser.value("document.title"), "Highway: audit in a browser")
+        self.browser.value("document.body.lastChild.remove()")
+
+    def test_a_log_of_100_mb_goes_by_pieces_and_is_stopped(self):
         data = (DATA / "both.hwlg").read_bytes()
         log = read_log(DATA / "both.hwlg")
-        long = self.write("long.hwlg", data + data[log.entries[0].offset :] * 20_000)
+        times = -(-LONG // (len(data) - log.entries[0].offset))
+        long = self.write("long.hwlg", data + data[log.entries[0].offset :] * times)
         self.addCleanup(long.unlink)
         [text] = self.dropped("replay", long)
-        self.assertIn(f"repeats {len(log.entries) * 20_000}", text)
+        self.assertEqual(text, self.said("replay", long))
+        self.assertIn(f"repeats {len(log.entries) * times}", text)
         self.browser.value("document.body.dataset.state = 'asked'")
         root = self.browser.ask("DOM.getDocument")["root"]["nodeId"]
         node = self.browser.ask("DOM.querySelector", nodeId=root, selector="#files")["nodeId"]
