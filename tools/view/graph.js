@@ -4,13 +4,13 @@
 import { box, picture, shape, span, title, words } from "./elements.js";
 import { HEAD, LABEL, areMany } from "./layout.js";
 
-export { drawGraph, drawLinks, drawNames };
+export { drawGraph, drawLinks, drawNames, showUntil };
 
 const LONG = 10_000_000n;
 
 /** The picture of a scene. A mark has the digest of its unit as `data-unit`. */
 function drawGraph(scene, { withLines }) {
-  const { spots, lanes, width, height } = scene, root = picture("graph", width, height);
+  const { spots, lanes, width, height } = scene, root = picture(areMany(lanes.length) ? "graph many" : "graph", width, height);
   root.append(...lanes.filter(({ who }) => who % 2 === 0).map((lane) => box(0, lane.top, width, lane.height, "band")), ...roundLines(scene));
   root.append(shape("g", { class: "overlay" }));
   if (withLines) root.append(shape("path", { class: "cite", d: wayOf(scene.lines) }));
@@ -52,7 +52,7 @@ function roundLines({ rounds, bottom }) {
 function laneLines({ steps }) {
   return steps.map(([spot, low]) => {
     const bend = spot.y === low.y ? "" : `l${round(Math.min(14, (spot.x - low.x) / 2))} ${round(spot.y - low.y)}`;
-    return shape("path", { class: `${spot.isTwin ? "fork" : "step"} of-${spot.unit.digest.slice(0, 16)}`, d: `M${round(low.x)} ${round(low.y)}${bend}H${round(spot.x)}` });
+    return shape("path", { class: spot.isTwin ? "lane fork" : "lane step", d: `M${round(low.x)} ${round(low.y)}${bend}H${round(spot.x)}` });
   });
 }
 
@@ -75,6 +75,17 @@ function tagMark({ kind, text, colour }, x, y) {
   const width = 6 + (kind === "start" ? 5.8 : 7.2) * text.length;
   const parts = kind === "start" ? [`c${colour}`, `tag i${colour}`] : ["none box", "tag bold"];
   return shape("g", {}, box(x - width / 2, y, width, 11.5, parts[0], 2), words(x, y + 9, text, parts[1]));
+}
+
+/** Shows those lines alone that there were with an entry of the log. */
+function showUntil(root, { lines, steps }, at) {
+  const cited = root.querySelector(":scope > .cite");
+  if (cited) cited.setAttribute("d", wayOf(lines.filter(([spot]) => spot.unit.entry <= at)));
+  root.querySelectorAll(".lane").forEach((path, place) => {
+    const [{ unit, ring }] = steps[place];
+    path.classList.toggle("ahead", unit.entry > at);
+    path.classList.toggle("calm", ring > at);
+  });
 }
 
 /** Draws, over the picture, what a unit cites and what cites it, and a halo. */

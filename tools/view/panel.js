@@ -2,7 +2,7 @@
 
 import { areMany, layOut } from "./layout.js";
 import { button, counted, element, line, span, tick } from "./elements.js";
-import { drawGraph, drawLinks, drawNames } from "./graph.js";
+import { drawGraph, drawLinks, drawNames, showUntil } from "./graph.js";
 import { drawHeat, drawMap, drawStrip, heatLegend } from "./overview.js";
 import { unitTable } from "./unit.js";
 import { Walk } from "./walk.js";
@@ -121,7 +121,7 @@ export class Panel {
     this.setSize();
     this.drawMap();
     if (this.unit) drawLinks(this.graph, this.scene.spots, this.unit);
-    if (this.walk) this.walk.show(this.scene.spots, this.marks);
+    if (this.walk) this.showWalk(this.walk);
     this.earlier.disabled = from === 0;
     this.later.disabled = from + units.length >= count;
     this.tellPlace();
@@ -207,8 +207,13 @@ export class Panel {
       const found = await this.source.ask({ kind: "find", text: unit });
       if (found) await this.open({ from: found.place - Math.floor(this.most / 2) });
     }
-    walk.show(this.scene.spots, this.marks);
+    this.showWalk(walk);
     if (unit) this.bring(unit);
+  }
+
+  showWalk(walk) {
+    walk.show(this.scene.spots, this.marks);
+    showUntil(this.graph, this.scene, walk.at);
   }
 
   // ---- size

@@ -35,6 +35,7 @@ export class Panels {
   /** Shows logs. `firsts` says for each at which unit it is opened; none is the first. */
   async show(sources, firsts = []) {
     this.clear();
+    if (!sources.length) return;
     const overviews = await Promise.all(sources.map((source) => source.ask({ kind: "overview" })));
     const labels = labelsOf(...overviews.map(({ blocks }) => blocks));
     const isTwo = sources.length > 1, wide = this.root.clientWidth / (isTwo && innerWidth >= BROAD ? 2 : 1) - 34;

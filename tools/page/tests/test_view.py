@@ -135,6 +135,8 @@ class View(OnPage):
         self.assertIn(f"Entry {count} of {count}", self.shown())
         self.press(*[","] * count)
         self.assertIn("Nothing was delivered yet", self.shown())
+        self.assertEqual(self.browser.value("document.querySelectorAll('.lane:not(.ahead)').length"), 0)
+        self.assertEqual(self.browser.value("document.querySelector('.graph > .cite').getAttribute('d')"), "")
         self.press(".", "n")
         self.browser.wait("document.querySelector('.said').innerText.includes('became final')")
         self.assertTrue(self.browser.value("document.querySelectorAll('.u.ahead').length > 0"))
