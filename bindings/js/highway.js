@@ -370,10 +370,16 @@ function signaturesAt(room, at) {
   return { kind, signed };
 }
 
-function receiptAt(room, at) {
-  const status = room.u32(at);
+// A number of 64 bits; one below 0 is a great one there.
+function putCount(view, at, count) {
+  view.setUint32(at, count >>> 0, true);
+  view.setUint32(at + 4, Math.floor(count / 0x100000000) >>> 0, true);
+}
+
+function receiptAt(room, view, at) {
+  const status = view.getUint32(at, true);
   if (status) return new Refusal(errorOf(status, room.answer(at + 8)));
-  const kind = room.u32(at + 8), count = room.u32(at + 12);
+  const kind = view.getUint32(at + 8, true), count = view.getUint32(at + 12, true);
   if (kind === 0) return { kind: "admitted", settled: count };
   if (kind === 1) return { kind: "parked", missing: count };
   return kind === 2 ? { kind: "dropped", rule: count } : { kind: "repeat" };
@@ -478,15 +484,16 @@ export class Core {
       const at = room.put(bytes), sent = room.take(SENT * vertices.length), delivered = room.take(DELIVERED * vertices.length);
       const view = room.view;
       vertices.forEach(({ start, end, verdict }, place) => {
-        view.setBigUint64(sent + SENT * place, BigInt(start), true);
-        view.setBigUint64(sent + SENT * place + 8, BigInt.asUintN(64, BigInt(end - start)), true);
+        putCount(view, sent + SENT * place, start);
+        putCount(view, sent + SENT * place + 8, end - start);
         view.setUint32(sent + SENT * place + 16, Number(verdict), true);
       });
       const count = BigInt(vertices.length);
       const words = [BigInt(at), BigInt(bytes.length), BigInt(sent), count, BigInt(delivered), count];
       const status = this.exports.hw_deliver(this.handle, ...words);
       if (status) throw errorOf(status);
-      return vertices.map((_, place) => receiptAt(room, delivered + DELIVERED * place));
+      const after = room.view;
+      return vertices.map((_, place) => receiptAt(room, after, delivered + DELIVERED * place));
     });
   }
 

@@ -242,6 +242,7 @@ export class LogReader {
   feed(bytes) {
     const rest = this.held.subarray(this.used);
     this.held = rest.length ? joined([rest, bytes]) : bytes;
+    this.view = new DataView(this.held.buffer, this.held.byteOffset, this.held.length);
     this.at += this.used;
     this.used = 0;
   }
@@ -284,7 +285,7 @@ export class LogReader {
     if (!this.left || !this.has(6, `torn at ${at}`)) return null;
     if (held[from] !== 1) throw new LogError(`bad event at ${at}`);
     if (held[from + 1] > 1) throw new LogError(`bad verdict at ${at}`);
-    const length = new DataView(held.buffer, held.byteOffset).getUint32(from + 2);
+    const length = this.view.getUint32(from + 2);
     if (length > MOST) throw new LogError(`too long at ${at}`);
     if (!this.has(6 + length, `torn at ${at}`)) return null;
     return { at, start: from + 6, end: from + 6 + length, verdict: held[from + 1] === 1 };

@@ -71,6 +71,7 @@ class PublicKeys:
 def read_scheme(arguments, count):
     """The keys of the words: those of a test network, or public keys where a side file is named."""
     keys = read_keys(arguments.keys, count)
-    if arguments.signatures is None:
+    if not arguments.signatures:
         return keys
-    return PublicKeys(keys, read_signatures(arguments.signatures))
+    beside = [read_signatures(path) for path in arguments.signatures]
+    return PublicKeys(keys, {slot: signature for each in beside for slot, signature in each.items()})

@@ -19,8 +19,8 @@ def write_new(path, said, force):
         raise InputError(path, "exists: --force writes over it")
     try:
         handle, name = tempfile.mkstemp(prefix=f".{path.name}.", dir=path.parent)
-        with os.fdopen(handle, "w", encoding="utf-8") as file:
-            file.write(said)
+        with os.fdopen(handle, "wb") as file:
+            file.write(said.encode() if isinstance(said, str) else said)
         os.chmod(name, 0o644)
         os.replace(name, path)
     except OSError as error:

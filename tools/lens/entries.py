@@ -1,15 +1,15 @@
-"""`lens.py entries LOG`: each entry of a log, and what became of it.
+"""`lens.py entries LOG`: each entry of a log, and what became of it; of a certificate each vertex.
 
 What became of an entry is an own reading, whose totals are compared with the program's `replay`. Which block is final
-since which entry is the program's word.
+since which entry is the program's word. A certificate has no verdicts, and is read as if each signature were good.
 """
-from lens.graph import DROPPED, PARKED, SETTLED, rule_text
-from lens.log import Endorsement, Evidence, short
-from lens.show import Look, counted
+from lens.certificate import is_certificate, read_certificate
+from lens.graph import DROPPED, PARKED, SETTLED, Reading, rule_text
+from lens.log import Endorsement, Evidence, Log, short
+from lens.show import Look, config_lines, counted
 
 HEAD = ("place", "byte", "kind", "by", "number", "round", "time", "digest", "verdict", "became")
 LEFT_BOUND = ("kind", "digest", "verdict", "became")
-MOST_NUMBERS = 16
 
 
 def fate(look, entry, outcome):
@@ -53,24 +53,10 @@ def table(rows):
         yield "  ".join(cells).rstrip()
 
 
-def numbers(values):
-    """Numbers with spaces between, and two dots where there are many."""
-    return " ".join(map(str, values[:MOST_NUMBERS])) + (" .." if len(values) > MOST_NUMBERS else "")
-
-
 def head_lines(look):
     """What the log is, and its configuration."""
-    log, config = look.log, look.log.config
-    leaders = "drawn" if isinstance(config.leaders, bytes) else numbers(config.leaders)
-    end = "" if config.end is None else f", end {config.end}"
-    entries = counted(len(log.entries), "entry", "entries")
-    yield f"{look.path}: a log of version {log.version}, {entries} in {log.size} bytes"
-    yield f"instance {config.instance.hex()}"
-    yield (
-        f"{counted(len(config.weights), 'validator')} of weight {numbers(config.weights)}, together "
-        f"{look.reading.total}; threshold {config.threshold}, levels {config.levels}"
-    )
-    yield f"exponents {config.least} to {config.greatest}, leaders {leaders}{end}"
+    log, entries = look.log, counted(len(look.log.entries), "entry", "entries")
+    return [f"{look.path}: a log of version {log.version}, {entries} in {log.size} bytes", *config_lines(log.config)]
 
 
 def rows_of(look, report, span):
@@ -83,8 +69,34 @@ def rows_of(look, report, span):
             yield row(look, entry, outcome, finals.get(entry.place, ()))
 
 
+class Opened:
+    """A certificate in the place of a log: its vertices as entries, and the own reading of them."""
+
+    def __init__(self, path):
+        self.path, self.certificate = path, read_certificate(path)
+        config, entries, size = self.certificate.config, self.certificate.entries, self.certificate.size
+        self.log = Log(config, 1, entries, size)
+        self.reading = None if self.certificate.fault else Reading(config)
+        for entry in entries if self.reading else ():
+            self.reading.take(entry)
+
+    def lines(self, span):
+        vertices = counted(len(self.log.entries), "vertex", "vertices")
+        yield f"{self.path}: a certificate, {vertices} in {self.log.size} bytes"
+        yield f"block {self.certificate.block.hex()}"
+        yield from config_lines(self.log.config)
+        if self.certificate.fault:
+            yield f"The configuration breaks a limit: {self.certificate.fault}."
+            return
+        yield from table(rows_of(self, None, span))
+        yield "It has no verdicts: each signature is shown as good, and `highway check` judges them by the keys."
+
+
 def run(arguments):
     """Shows the entries, then the totals; 1 where the program's totals are others."""
+    if is_certificate(arguments.log):
+        print("\n".join(Opened(arguments.log).lines(arguments.entries)))
+        return 0
     look = Look(arguments.log, arguments)
     report, differing = look.compare()
     for line in [*head_lines(look), *table(rows_of(look, report, arguments.entries)), *look.reading.totals()]:

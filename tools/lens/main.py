@@ -7,8 +7,9 @@ is final, who is faulty, who is a culprit) comes from the proved program, which 
 environment variable HIGHWAY, else crates/highway/out/highway in this repository. What it works out itself, so that
 there is something to show, is compared with what the program's `replay` says.
 
-Status 0: it showed what was asked. 1: `verify` found a verdict that isn't what the keys say, or the own reading differs
-from the program. 2: bad words, a bad file, or no program; one line on standard error says which, with its place.
+Status 0: it showed what was asked. 1: `verify` or `why` found a verdict that isn't what the keys say, or the own reading
+differs from the program. 2: bad words, a bad file, or no program; one line on standard error says which, with its place.
+3: `watch --halt` saw that finality has halted.
 """
 import argparse
 import importlib
@@ -57,33 +58,52 @@ def command(commands, name, what):
 
 
 def signatures_option(parser):
-    what = "the file of Ed25519 signatures beside the log; KEYS are public keys then, 64 digits a line"
-    parser.add_argument("--signatures", metavar="FILE", help=what)
+    what = "a file of Ed25519 signatures beside a log, given once or more; KEYS are public keys then, 64 digits a line"
+    parser.add_argument("--signatures", metavar="FILE", action="append", help=what)
+
+
+def keys_options(parser):
+    parser.add_argument("--keys", metavar="KEYS", help="the validators' keys, with which each signature is checked")
+    signatures_option(parser)
+
+
+def force_option(parser):
+    parser.add_argument("--force", action="store_true", help="write over a file that is there")
 
 
 def add_questions(commands):
-    parser = command(commands, "entries", "each entry of a log, and what became of it")
+    parser = command(commands, "entries", "each entry of a log or vertex of a certificate, and what became of it")
     parser.add_argument("log", metavar="LOG")
     parser.add_argument("--entries", type=span, metavar="A..B", default=ALL, help="only the entries of these places")
     parser = command(commands, "unit", "one unit in full")
     parser.add_argument("log", metavar="LOG")
     parser.add_argument("hash", metavar="HASH", help="the digest, or a prefix that one unit alone has")
-    parser = command(commands, "evidence", "for each faulty validator the pair of units that shows it")
+    parser = command(commands, "instance", "the instance of a file of settings, a log, or a certificate")
+    parser.add_argument("file", metavar="FILE")
+
+
+def add_accusations(commands):
+    parser = command(commands, "evidence", "the pair that shows each faulty validator, or each culprit of two logs")
     parser.add_argument("log", metavar="LOG")
-    parser.add_argument("--keys", metavar="KEYS", help="the validators' keys, with which each signature is checked")
-    signatures_option(parser)
+    parser.add_argument("right", metavar="RIGHT", nargs="?", help="another log, that is in conflict with the first")
+    parser.add_argument("--out", metavar="NEW", help="write the pairs as a log that a third party checks")
+    keys_options(parser)
+    force_option(parser)
     parser = command(commands, "verify", "checks each signature; status 1 where a verdict byte isn't what the keys say")
     parser.add_argument("log", metavar="LOG")
     parser.add_argument("keys", metavar="KEYS")
     signatures_option(parser)
-    parser = command(commands, "why", "the conflict of two logs as a story")
+    parser = command(
+        commands, "why", "the conflict of two logs as a story; status 1 where the keys say that a verdict is wrong"
+    )
     parser.add_argument("left", metavar="LEFT")
     parser.add_argument("right", metavar="RIGHT")
+    keys_options(parser)
 
 
 def picture_options(parser):
     parser.add_argument("--rounds", type=span, metavar="A..B", default=ALL, help="only these rounds, from the first on")
-    parser.add_argument("--force", action="store_true", help="write over a file that is there")
+    force_option(parser)
 
 
 def add_pictures(commands):
@@ -103,6 +123,12 @@ def add_watch(commands):
     parser.add_argument("--json", action="store_true", help="a line a refresh, for a monitor")
     parser.add_argument("--every", type=positive, metavar="SECONDS", default=1.0, help="between refreshes (1)")
     parser.add_argument("--count", type=whole, metavar="N", default=0, help="end after so many refreshes (0: never)")
+    parser.add_argument(
+        "--halt", type=whole, metavar="SECONDS", help="end with status 3 once finality has halted so long"
+    )
+    parser.add_argument(
+        "--metrics", metavar="FILE", help="write a text for Prometheus at each refresh; - prints it instead"
+    )
     parser.add_argument("--now", type=whole, metavar="MS", help="the present in milliseconds, in place of the clock")
 
 
@@ -111,6 +137,7 @@ def make_parser():
     parser = argparse.ArgumentParser(prog="lens.py", description=__doc__, formatter_class=form)
     commands = parser.add_subparsers(dest="command", metavar="COMMAND", required=True)
     add_questions(commands)
+    add_accusations(commands)
     add_pictures(commands)
     add_watch(commands)
     return parser

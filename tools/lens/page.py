@@ -1,49 +1,43 @@
 """`page LOG OUT.html`: one file for a browser, that needs no network: the picture, each unit in full, and the journal
 entry by entry. `page LEFT RIGHT OUT.html` shows two logs side by side, with the program's audit of them.
 
-It proves nothing: every judgement in it is the proved program's (lens/seen.py).
+It proves nothing: every judgement in it is the proved program's (lens/seen.py). What it draws with is tools/view, as the
+page of the core does; this writes the data for it.
 """
 import json
 import pathlib
-import re
 from dataclasses import dataclass, field
 from html import escape
 
-from lens.draw import check_new, check_size, write_new
+from lens.draw import UNITS_MOST, check_new, write_new
 from lens.graph import SETTLED, Reading
-from lens.layout import LABEL_WIDTH, Rounds, block_labels, lay_out
+from lens.layout import Rounds, block_labels
 from lens.log import ABSENT, FAULTY, Endorsement, Evidence, InputError, SignedUnit, value_text
 from lens.program import log_file, need_program
 from lens.seen import DIFFER, look
-from lens.svg import (
-    DISCLAIMER,
-    STYLE,
-    bands,
-    colour_rules,
-    committee_text,
-    drawing,
-    head_lines,
-    lane_labels,
-    legend,
-    legend_items,
-    number,
-    rect,
-)
+from lens.svg import committee_text
+from view.parts import VIEW, filled, policy, read, script_of, style_of
 
 HERE = pathlib.Path(__file__).resolve().parent
-AXIS = 44
 CHECKS_MOST = 24
 VALUE_LETTERS = 400
+LEAD = 12
+FOOT = (
+    "This page proves nothing. What is final, when, by which committee, and who is faulty is what the proved program says "
+    "of the log (explain, replay, audit). Lanes, citations, votes and heights are this tool's own reading."
+)
 
 
 @dataclass(slots=True)
 class Panel:
-    """One of the page's logs: what was seen of it, its scene, and the numbers by which the data names its units."""
+    """One of the page's logs: what was seen of it, and the numbers by which the data names its units. `window` are the
+    first and the last round that were asked for, or None for all.
+    """
 
     seen: object
-    scene: object
     labels: dict
     rounds: Rounds
+    window: tuple | None
     numbers: dict = field(default_factory=dict)
     units: list = field(default_factory=list)
 
@@ -51,16 +45,24 @@ class Panel:
     def name(self):
         return self.seen.name.rsplit("/", 1)[-1]
 
+    def is_shown(self, unit):
+        """Whether the unit is of a round that was asked for."""
+        return self.window is None or self.window[0] <= self.rounds.number(unit.time) <= self.window[1]
+
 
 # ---- the data of a log
 
 
 def gather_units(panel):
-    """Numbers each unit that has an entry of its own, at its first one."""
+    """Numbers each unit that has an entry of its own: that with which it was accepted, else its first one."""
+    nodes = panel.seen.reading.nodes
     for entry, outcome in zip(panel.seen.log.entries, panel.seen.reading.outcomes):
-        if isinstance(entry.vertex, SignedUnit) and entry.vertex.unit.digest not in panel.numbers:
-            panel.numbers[entry.vertex.unit.digest] = len(panel.units)
-            panel.units.append((entry.vertex.unit, entry, outcome))
+        if not isinstance(entry.vertex, SignedUnit):
+            continue
+        unit = entry.vertex.unit
+        if unit.digest not in panel.numbers and (unit.digest not in nodes or nodes[unit.digest].entry is entry):
+            panel.numbers[unit.digest] = len(panel.units)
+            panel.units.append((unit, entry, outcome))
 
 
 def observation(panel, seen):
@@ -70,54 +72,76 @@ def observation(panel, seen):
     return panel.numbers.get(seen, seen.hex())
 
 
-def place_of(panel, digest):
-    """Where a unit stands in the picture: in its lane, apart, or nowhere."""
-    spot = panel.scene.spots.get(digest)
-    if spot:
-        return spot.x, spot.y
-    one = next((one for one in panel.scene.apart if one.unit.digest == digest), None)
-    return (one.x + one.width / 2, one.y) if one else (None, None)
-
-
-def unit_data(panel, unit, entry, outcome):
-    """What the page tells of a unit that is clicked."""
-    node = panel.seen.reading.nodes.get(unit.digest)
-    x, y = place_of(panel, unit.digest)
-    became = str(outcome)
+def became_words(node, entry, outcome):
+    """What became of a unit, at once and later."""
     if node is not None and node.since > entry.place:
-        became += f", {node.state} with entry {node.since}"
-    vote = node.vote.unit.digest if node is not None and node.vote is not None and node.state == SETTLED else None
+        return f"{outcome}, {node.state} with entry {node.since}"
+    return str(outcome)
+
+
+def unit_data(panel, unit, entry, outcome, journal):
+    """What the page knows of a unit. Numbers that may be long are texts."""
+    node = panel.seen.reading.nodes.get(unit.digest)
+    is_settled = node is not None and node.state == SETTLED
+    vote = node.vote.unit.digest if is_settled and node.vote is not None else None
     return {
         "digest": unit.digest.hex(),
         "creator": unit.creator,
-        "number": str(unit.number),
+        "seq": str(unit.number),
         "time": str(unit.time),
-        "round": str(panel.rounds.number(unit.time)),
+        "round": str(unit.round),
         "exponent": unit.exponent,
         "entry": entry.place,
-        "became": became,
+        "journal": journal.get(entry.place),
+        "became": became_words(node, entry, outcome),
+        "state": node.state if node is not None else "refused",
         "value": None if unit.value is None else value_text(unit.value)[:VALUE_LETTERS],
         "vote": panel.numbers[vote] if vote else None,
+        "height": node.height if is_settled and unit.is_block else None,
         "panorama": [observation(panel, seen) for seen in unit.panorama],
         "endorsed": [digest.hex() for digest in unit.endorsed],
-        "judged": judged(panel, unit.digest),
-        "x": None if x is None else round(x, 1),
-        "y": None if y is None else round(y, 1),
+        "judged": judged(panel, unit),
+        # A refused unit is told of entry by entry, and has no place in the graph.
+        "isHidden": node is None or not panel.is_shown(unit),
     }
 
 
-def judged(panel, digest):
+def judged(panel, unit):
     """What the program says of a unit, in words."""
+    seen = panel.seen
     said = [
-        f"final at height {final.height}: level {final.level}, quorum {final.quorum}, since entry "
-        f"{panel.seen.entry_of(final)}"
-        for final in panel.seen.finals
-        if final.digest == digest
+        f"final at height {final.height}: level {final.level}, quorum {final.quorum}, since entry {seen.entry_of(final)}"
+        for final in seen.finals
+        if final.digest == unit.digest
     ]
-    spot = panel.scene.spots.get(digest)
-    if spot and spot.forked and spot.node.unit.creator in panel.seen.faulty:
-        said.append(f"validator {spot.node.unit.creator} is faulty: another unit of it has this number")
-    return said + ([panel.seen.culprits[digest]] if digest in panel.seen.culprits else [])
+    if unit.creator in seen.faulty and len(seen.reading.units_at(unit.creator, unit.number)) > 1:
+        said.append(f"validator {unit.creator} is faulty: another unit of it has this number")
+    return said + ([seen.culprits[unit.digest]] if unit.digest in seen.culprits else [])
+
+
+def start_tags(panel):
+    """Where each member of a committee has its starts, as tags by unit. A member of a committee isn't faulty then."""
+    tags = {}
+    for final in panel.seen.finals:
+        for member, starts in final.committee.items():
+            for level, number in enumerate(starts):
+                for node in panel.seen.reading.units_at(member, number)[:1]:
+                    tags.setdefault((node.unit.digest, final.digest), []).append(level)
+    by_unit = {}
+    for (digest, block), levels in tags.items():
+        by_unit.setdefault(digest, []).append({"kind": "start", "blocks": [block.hex()], "levels": levels})
+    return by_unit
+
+
+def units_data(panel):
+    """What the page knows of all units."""
+    journal = {entry.place: place for place, entry in enumerate(panel.seen.reading.journal)}
+    starts, told = start_tags(panel), []
+    for unit, entry, outcome in panel.units:
+        since = panel.seen.reading.endorsed_since.get(unit.digest)
+        more = {"tags": starts.get(unit.digest, []), "noted": [f"endorsed since entry {since.place}"] if since else []}
+        told.append(unit_data(panel, unit, entry, outcome, journal) | more)
+    return told
 
 
 def entry_words(entry):
@@ -138,31 +162,28 @@ class Walk:
     def __init__(self, panel):
         self.panel, self.seen = panel, panel.seen
         self.reading = Reading(self.seen.reading.config)
-        self.finals, self.news = 0, {}
+        self.news, self.settled = {}, {}
         for final in self.seen.finals:
-            said = (
-                f"Block {panel.labels[final.digest].text} became final: level {final.level}, "
-                f"quorum {final.quorum}, committee {committee_text(final.committee)}"
-            )
-            self.news.setdefault(self.seen.entry_of(final), []).append(said)
+            self.news.setdefault(self.seen.entry_of(final), []).append(final.digest.hex())
+        for node in self.seen.reading.nodes.values():
+            if node.state == SETTLED:
+                self.settled.setdefault(node.since, []).append(node.unit.digest.hex())
 
     def step(self, entry):
         """Delivers an entry, and answers what the page tells of it."""
         outcome, reading = self.reading.take(entry), self.reading
-        news = self.news.get(entry.place, [])
-        self.finals += len(news)
         newly = [who for who, since in reading.faulty_since.items() if since is entry and who in self.seen.faulty]
         fork = reading.fork()
         unit = entry.vertex.unit.digest if isinstance(entry.vertex, SignedUnit) else None
         return {
             "what": entry_words(entry),
             "became": str(outcome),
-            "unit": self.panel.numbers.get(unit),
+            "unit": unit.hex() if unit else None,
+            "settles": self.settled.get(entry.place, []),
             "counts": [len(reading.order), len(reading.parked), len(reading.dropped)],
-            "finals": self.finals,
-            "faulty": reading.faulty(),
-            "fork": self.panel.numbers[fork.unit.digest] if fork else None,
-            "news": news + [f"validator {who} is faulty from here on" for who in newly],
+            "finals": self.news.get(entry.place, []),
+            "faulty": newly,
+            "fork": fork.unit.digest.hex() if fork else None,
         }
 
     def check(self, program, place):
@@ -184,80 +205,72 @@ def walk_data(panel, program):
     return told
 
 
-def panel_data(panel, program):
-    """All that the page's script knows of a log."""
-    gather_units(panel)
-    labels = {panel.numbers[digest]: label.text for digest, label in panel.labels.items() if digest in panel.numbers}
-    finals = [
+def finals_data(panel):
+    """The final blocks, as the program explains them."""
+    return [
         {
-            "label": panel.labels[final.digest].text,
-            "unit": panel.numbers[final.digest],
+            "block": final.digest.hex(),
+            "height": final.height,
             "level": final.level,
-            "quorum": final.quorum,
-            "entry": panel.seen.entry_of(final),
+            "quorum": str(final.quorum),
+            "at": final.at,
             "committee": committee_text(final.committee),
         }
         for final in panel.seen.finals
     ]
-    settings = {
+
+
+def head_lines(panel):
+    """What the log is, in few lines."""
+    config, report = panel.seen.reading.config, panel.seen.report
+    counts = " · ".join(f"{name} {count}" for name, count in report.counts.items() if count or name == "units")
+    exceeded = "" if report.exceeded is None else f" · faulty weight {report.exceeded} exceeds the threshold"
+    weights = f"total weight {sum(config.weights)} · threshold {config.threshold} · levels {config.levels}"
+    return [f"{len(panel.seen.log.entries)} entries · {counts}", weights + exceeded]
+
+
+def marked_units(seen):
+    """The units that an audit is about, by what they are in it."""
+    marked = {digest.hex(): "culprit" for digest in seen.culprits}
+    for digest in seen.conflict:
+        marked[digest.hex()] = f"{marked.get(digest.hex(), '')} conflict".strip()
+    return marked
+
+
+def first_place(panel, units):
+    """The place by time from which the page opens: a little before the first unit that an audit is about."""
+    marked = [*panel.seen.culprits, *panel.seen.conflict]
+    times = [int(units[panel.numbers[digest]]["time"]) for digest in marked if digest in panel.numbers]
+    earlier = sum(int(unit["time"]) < min(times) for unit in units if not unit["isHidden"]) if times else 0
+    return max(0, earlier - LEAD)
+
+
+def panel_data(panel, program):
+    """All that the page's script knows of a log."""
+    gather_units(panel)
+    seen, units = panel.seen, units_data(panel)
+    told = {
         "name": panel.name,
-        "labels": labels,
-        "width": panel.scene.width,
-        "height": panel.scene.height + AXIS + 10,
-        "label": LABEL_WIDTH,
-        "axis": AXIS,
+        "weights": [str(weight) for weight in seen.reading.config.weights],
+        "exponent": seen.reading.config.least,
+        "faulty": seen.faulty,
+        "head": head_lines(panel),
+        "marked": marked_units(seen),
+        "first": first_place(panel, units),
+        "hasStarts": any(final.committee for final in seen.finals),
+        "finals": finals_data(panel),
+        "units": units,
+        "walk": walk_data(panel, program),
     }
-    return {
-        "settings": settings,
-        "entries": walk_data(panel, program),
-        "finals": finals,
-        "units": [unit_data(panel, *each) for each in panel.units],
-    }
+    return told | {"notes": seen.notes}
 
 
 # ---- the page's parts
 
-BUTTONS = (
-    ("first", "|◀", "to the beginning"),
-    ("back", "◀", "an entry back"),
-    ("on", "▶", "an entry on"),
-    ("last", "▶|", "to the end"),
-    ("play", "play", "walk on by itself"),
-    ("final", "next event", "to the next entry with which a block became final, or a validator faulty"),
-)
-TOOLS = (("larger", "+", "larger"), ("smaller", "−", "smaller"), ("fit", "fit", "the whole width"))
-
-
-def buttons(which):
-    made = (f'<button type="button" data-do="{do}" title="{title}">{said}</button>' for do, said, title in which)
-    return " ".join(made)
-
-
-def panel_html(panel):
-    """A log's picture, which scrolls below its lanes' names, and its slider."""
-    width, height = panel.scene.width, panel.scene.height + AXIS + 10
-    below = f'<g transform="translate(0 {AXIS})">'
-    inside = f"{below}{drawing(panel.scene, -8, width)}</g>"
-    labels = f"{below}{bands(panel.scene, LABEL_WIDTH)}{lane_labels(panel.scene)}</g>"
-    names = rect(0, 0, LABEL_WIDTH, height, "paper") + labels
-    heads, count = head_lines(panel.seen, panel.scene), len(panel.seen.log.entries)
-    sheet = svg(inside, width, height, "picture") + svg(names, LABEL_WIDTH, height, "names")
-    return (
-        f'<section class="panel"><div class="name">{escape(heads[0])} <span>{escape(" · ".join(heads[1:]))}</span>'
-        f'<span class="tools">{buttons(TOOLS)}</span></div><div class="view"><div class="sheet">{sheet}</div></div>'
-        f'<div class="walk">{buttons(BUTTONS)}<input type="range" min="0" max="{count}" value="{count}" '
-        'aria-label="entry"><div class="said"></div></div></section>'
-    )
-
-
-def svg(inside, width, height, kind):
-    size = f'width="{number(width)}" height="{number(height)}" viewBox="0 0 {number(width)} {number(height)}"'
-    return f'<svg xmlns="http://www.w3.org/2000/svg" class="hw {kind}" {size}>{inside}</svg>'
-
 
 def digest_link(digest, label=None):
     said = f"{label} ({digest.hex()[:8]})" if label else digest.hex()[:8]
-    return f'<a class="unit" data-digest="{digest.hex()}">{escape(said)}</a>'
+    return f'<a class="unit" href="#unit={digest.hex()}" data-digest="{digest.hex()}">{escape(said)}</a>'
 
 
 def story(verdict, labels, names):
@@ -276,38 +289,29 @@ def story(verdict, labels, names):
 
 
 def header(panels, verdict):
-    """The page's head: its title, the audit, and what is odd about the logs."""
-    title = " and ".join(panel.name for panel in panels)
-    lines = [f"<h1>{escape(title)}</h1>"]
+    """The page's head: its title, and the audit."""
+    lines = [f"<h1>{escape(' and '.join(panel.name for panel in panels))}</h1>"]
     if verdict is not None:
         told = story(verdict, panels[0].labels, [panel.name for panel in panels])
         lines += [f'<p class="{"quiet" if verdict.agree is not None else "alarm"}">{told[0]}</p>']
         lines += [f"<p>{line}</p>" for line in told[1:]]
-    notes = (f"{panel.name}: {note}" for panel in panels for note in panel.seen.notes)
-    return "".join(lines) + "".join(f'<p class="alarm">{escape(note)}</p>' for note in notes)
-
-
-def legend_html(panels):
-    """The legend of the pictures, as wide as the page's side."""
-    items = {item[1]: item for panel in panels for item in legend_items(panel.scene, panel.seen)}
-    inside, height = legend(list(items.values()), 4, 300)
-    return "<h2>Marks</h2>" + svg(inside, 320, height + 8, "legend")
+    return "".join(lines)
 
 
 def page(panels, program, verdict):
     """The whole page. Data is written so that it can't end the script that holds it."""
     data = json.dumps([panel_data(panel, program) for panel in panels], separators=(",", ":"), ensure_ascii=True)
+    style, script = style_of(), script_of(*VIEW, HERE / "open.js")
     parts = {
+        "POLICY": policy(style, script),
         "TITLE": escape(" and ".join(panel.name for panel in panels)),
-        "STYLE": STYLE + colour_rules(),
+        "STYLE": style,
         "HEADER": header(panels, verdict),
-        "PANELS": "".join(map(panel_html, panels)),
-        "LEGEND": legend_html(panels),
-        "FOOT": escape(" ".join(DISCLAIMER)),
+        "FOOT": escape(FOOT),
         "DATA": data.replace("<", "\\u003c"),
-        "SCRIPT": (HERE / "page.js").read_text(encoding="utf-8"),
+        "SCRIPT": script,
     }
-    return re.sub("@([A-Z]+)@", lambda found: parts[found[1]], (HERE / "page.html").read_text(encoding="utf-8"))
+    return filled(read(HERE / "page.html"), parts)
 
 
 # ---- the command
@@ -332,7 +336,18 @@ def make_panels(paths, program, arguments):
             seen.culprits = blame(verdict)
             seen.conflict = () if verdict.agree is not None else (verdict.left, verdict.right)
     labels, rounds = block_labels(*(seen.reading for seen in seens)), Rounds(*seens)
-    return [Panel(seen, lay_out(seen, labels, rounds, arguments.rounds), labels, rounds) for seen in seens], verdict
+    asked = arguments.rounds if arguments.rounds != (None, None) else None
+    windows = [rounds.window(seen.name, asked) if asked else None for seen in seens]
+    return [Panel(seen, labels, rounds, window) for seen, window in zip(seens, windows)], verdict
+
+
+def count_shown(panel):
+    """How many settled units the page shows. More than a browser likes to hold are refused."""
+    shown = sum(panel.is_shown(node.unit) for node in panel.seen.reading.order)
+    if shown > UNITS_MOST:
+        said = f"{shown} units are more than a page's {UNITS_MOST}: choose rounds with --rounds A..B"
+        raise InputError(panel.seen.name, said)
+    return shown
 
 
 def run(arguments):
@@ -342,11 +357,8 @@ def run(arguments):
         raise InputError(arguments.logs[2], "a page shows one log, or two side by side")
     program = need_program(arguments.program)
     panels, verdict = make_panels(arguments.logs, program, arguments)
-    for panel in panels:
-        check_size(panel.seen, panel.scene)
-    said = page(panels, program, verdict)
-    write_new(arguments.out, said, arguments.force)
+    shown = sum(count_shown(panel) for panel in panels)
+    write_new(arguments.out, page(panels, program, verdict), arguments.force)
     notes = [note for panel in panels for note in panel.seen.notes]
-    shown = sum(len(panel.scene.spots) for panel in panels)
     print("".join(note + "\n" for note in notes) + f"a page of {shown} units: {arguments.out}")
     return 1 if any(note.startswith(DIFFER) for note in notes) else 0

@@ -7,6 +7,7 @@ from lens.log import ABSENT, FAULTY, Evidence, InputError, SignedUnit, is_signed
 from lens.program import ProgramError, before_limit, differences, has_program, log_file, need_program
 
 MOST_LISTED = 20
+MOST_NUMBERS = 16
 
 
 class Progress:
@@ -117,6 +118,23 @@ class Look:
 
 
 # ---- words
+
+
+def numbers(values):
+    """Numbers with spaces between, and two dots where there are many."""
+    return " ".join(map(str, values[:MOST_NUMBERS])) + (" .." if len(values) > MOST_NUMBERS else "")
+
+
+def config_lines(config):
+    """A configuration in few lines, the instance first."""
+    leaders = "drawn" if isinstance(config.leaders, bytes) else numbers(config.leaders)
+    end, total = "" if config.end is None else f", end {config.end}", sum(config.weights)
+    yield f"instance {config.instance.hex()}"
+    yield (
+        f"{counted(len(config.weights), 'validator')} of weight {numbers(config.weights)}, together {total}; "
+        f"threshold {config.threshold}, levels {config.levels}"
+    )
+    yield f"exponents {config.least} to {config.greatest}, leaders {leaders}{end}"
 
 
 def units_in(vertex):

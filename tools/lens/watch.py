@@ -2,6 +2,9 @@
 
 What is final and who is faulty is the program's word: its `replay` is run again when there are new entries, and for a
 tenth of the time at most. Ages compare this machine's clock with the times of units, which are the nodes' clocks.
+
+Finality has halted once nothing became final for so long as `--halt` says, or nothing can any more: the faulty weigh more
+than the threshold, a limit is met, or the instance has ended. The watch says so, and ends with status 3.
 """
 import collections
 import json
@@ -9,6 +12,7 @@ import os
 import sys
 import time
 
+from lens.draw import write_new
 from lens.graph import Reading
 from lens.log import InputError, LogReader, short
 from lens.program import ProgramError, before_limit, differences, need_program
@@ -18,6 +22,7 @@ WINDOW = 10.0  # seconds over which units a second are counted
 SHARE = 10  # the program may take the time of one run in so many
 CUT_FOR = 5.0  # seconds after which a cut entry is torn and not one that is being written
 SHOWN_WAITS = 8
+HALTED = 3  # the status of a watch that ends since finality has halted
 
 
 class Follower:
@@ -113,6 +118,24 @@ def final_state(report, reading, now):
     return {"height": final.height, "digest": final.digest.hex(), "age_ms": age, "rounds_without": rounds}
 
 
+def halted_text(state, reading, after):
+    """Why finality has halted, or None. `after` is how many seconds may go by, or None for any."""
+    if state.get("exceeded") is not None:
+        return f"faulty validators of weight {state['exceeded']} exceed the threshold: nothing more becomes final"
+    if state["limit"] is not None:
+        return f"{state['limit']}: the program takes no more"
+    if after is None or "final" not in state:
+        return None
+    final, begin = state["final"], min((node.unit.time for node in reading.order), default=None)
+    if final and final["height"] == reading.config.end:
+        return f"the instance has ended with height {final['height']}"
+    age = final["age_ms"] if final else None if begin is None else state["time_ms"] - begin
+    if age is None or age <= 1000 * after:
+        return None
+    since = f"since height {final['height']}, whose block is {span_text(age)} old" if final else f"for {span_text(age)}"
+    return f"nothing became final {since}"
+
+
 def validator_states(reading, faulty, now):
     """Each validator: its units, and for how long it has said nothing."""
     counts, latest = collections.Counter(), {}
@@ -153,6 +176,7 @@ class Watch:
         state |= {"faulty": report.faulty, "exceeded": report.exceeded, "waits": wait_states(reading)}
         state["units_a_second"] = self.rate.mark(moment, len(reading.order))
         state["validators"] = list(validator_states(reading, report.faulty, now))
+        state["halted"] = halted_text(state, reading, self.arguments.halt)
         return state | {"agrees": not self.judge.differing}
 
 
@@ -195,6 +219,8 @@ def faulty_line(state):
 
 def warnings(state):
     """What isn't there on a good day."""
+    if state["halted"] is not None:
+        yield f"HALTED   {state['halted']}"
     if state["torn"] is not None:
         yield f"torn     at {state['torn']}: the last entry has been cut for a while"
     if state["limit"] is not None:
@@ -225,23 +251,60 @@ def screen(state, reading):
         yield f"{each['validator']:>9}  {each['weight']:>6}  {each['units']:>5}  {span_text(each['silent_ms'])}{mark}"
 
 
+def each_metric(state):
+    """What Prometheus is told: a name, what it is, and each value with its labels."""
+    final = state["final"] or {}
+    yield "entries", "entries of the log", [("", state["entries"])]
+    yield "units", "settled units", [("", state["units"])]
+    yield "parked", "units that wait for others", [("", state["parked"])]
+    yield "needs", "what waiting units need and the log lacks", [("", state["waits"]["needs"])]
+    yield "final_height", "height of the last final block, -1 without one", [("", final.get("height", -1))]
+    yield "final_age_seconds", "age of the last final block", [("", final["age_ms"] / 1000)] if final else []
+    yield "halted", "1 where finality has halted", [("", int(state["halted"] is not None))]
+    yield "reading_differs", "1 where the lens reads another state than the program", [("", int(not state["agrees"]))]
+    for name, what in (("faulty", "1 where the validator is faulty"), ("validator_units", "units of the validator")):
+        key = {"faulty": "faulty", "validator_units": "units"}[name]
+        yield name, what, [(f'{{validator="{one["validator"]}"}}', int(one[key])) for one in state["validators"]]
+
+
+def metrics_text(state):
+    """The state as a text for Prometheus. Without an answer of the program it says no more than that."""
+    lines = [
+        f"# HELP highway_judged 1 where the program has answered\n# TYPE highway_judged gauge\nhighway_judged {int('final' in state)}"
+    ]
+    for name, what, values in each_metric(state) if "final" in state else ():
+        lines.append(f"# HELP highway_{name} {what}\n# TYPE highway_{name} gauge")
+        lines += [f"highway_{name}{labels} {value}" for labels, value in values]
+    return "\n".join(lines) + "\n"
+
+
 def show(watch, arguments):
-    """Shows one refresh."""
+    """Shows one refresh, and answers the state."""
     state = watch.state()
-    if arguments.json:
+    if arguments.metrics and arguments.metrics != "-":
+        write_new(arguments.metrics, metrics_text(state), True)
+    if arguments.metrics == "-":
+        print(metrics_text(state), end="", flush=True)
+    elif arguments.json:
         print(json.dumps(state), flush=True)
-        return
-    clear = "\x1b[H\x1b[2J" if sys.stdout.isatty() else ""
-    print(clear + "\n".join(screen(state, watch.follower.reading)) + ("" if clear else "\n"), flush=True)
+    else:
+        clear = "\x1b[H\x1b[2J" if sys.stdout.isatty() else ""
+        print(clear + "\n".join(screen(state, watch.follower.reading)) + ("" if clear else "\n"), flush=True)
+    return state
 
 
 def run(arguments):
-    """Shows the node's state again and again; 0 at the end, which an interrupt brings too."""
+    """Shows the node's state again and again. Answers 0 at the end, which an interrupt brings too; 3 where `--halt` is
+    given and finality has halted, with a word on standard error.
+    """
     watch, shown = Watch(arguments), 0
     while True:
         began = time.monotonic()
-        show(watch, arguments)
+        halted = show(watch, arguments).get("halted")
         shown += 1
+        if halted and arguments.halt is not None:
+            print(f"lens: halted: {halted}", file=sys.stderr)
+            return HALTED
         if shown == arguments.count:
             return 0
         time.sleep(max(0.0, began + arguments.every - time.monotonic()))

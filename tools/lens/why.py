@@ -1,5 +1,6 @@
 """`lens.py why LEFT RIGHT`: the conflict of two logs as a story. Conflict and culprits are the program's word."""
-from lens.log import short
+from lens.detached import read_scheme
+from lens.log import is_signed, short
 from lens.show import Look, block_text, counted, listed, parent_text, unit_lines
 
 MOST_BLOCKS = 5
@@ -12,6 +13,11 @@ class Side:
         self.name, self.look = name, Look(path, arguments)
         self.look.refuse_fault()
         self.finals = self.look.program().explain(self.look.file)
+        self.keys = read_scheme(arguments, len(self.look.log.config.weights)) if arguments.keys else None
+
+    def wrong(self):
+        """The entries whose verdict byte isn't what the keys say."""
+        return [entry for entry in self.look.log.entries if is_signed(entry.vertex, self.keys) != entry.verdict]
 
     def final_at(self, height):
         return next((final for final in self.finals if final.height == height), None)
@@ -66,7 +72,7 @@ def pair_lines(left, right, pair):
         holding = [(side, found[0][0].place) for side, found in holding if found]
         yield "  " + " and ".join(f"{side.name.lower()} has it in entry {place}" for side, place in holding)
         if holding:
-            yield from ("  " + line for line in unit_lines(holding[0][0].look, digest))
+            yield from ("  " + line for line in unit_lines(holding[0][0].look, digest, left.keys))
 
 
 def story(left, right, verdict):
@@ -81,15 +87,35 @@ def story(left, right, verdict):
     for who, *pair in verdict.culprits:
         yield f"validator {who} (weight {weights[who]}) made two units with one number:"
         yield from pair_lines(left, right, pair)
-    yield "\nThis believes the verdict of each entry: run `verify` on both logs before anybody is accused."
+    if left.keys is None:
+        yield "\nThis believes the verdict of each entry: run `verify` on both logs before anybody is accused."
+
+
+def checked_lines(side, wrong):
+    """What the keys say of a log's verdicts."""
+    entries = counted(len(side.look.log.entries), "entry", "entries")
+    if not wrong:
+        yield f"{side.name}: by the keys the verdict of each of {entries} is right."
+        return
+    some = listed((f"entry {entry.place}, verdict {int(entry.verdict)}" for entry in wrong), MOST_BLOCKS)
+    yield f"{side.name}: by the keys {len(wrong)} of {entries} have a WRONG verdict, so accuse nobody by this log: {some}"
+
+
+def check(sides):
+    """Shows what the keys say of both logs. Answers 1 where a verdict is wrong, else 0; without keys 0."""
+    if sides[0].keys is None:
+        return 0
+    found = [(side, side.wrong()) for side in sides]
+    print("\n".join(line for side, wrong in found for line in checked_lines(side, wrong)))
+    return 1 if any(wrong for _, wrong in found) else 0
 
 
 def run(arguments):
-    """Tells the conflict, or that there is none, and answers 0."""
-    left, right = Side("Left", arguments.left, arguments), Side("Right", arguments.right, arguments)
-    verdict = left.look.program().audit(left.look.file, right.look.file)
+    """Tells the conflict, or that there is none. Answers 0, or 1 where the keys say that a verdict is wrong."""
+    sides = Side("Left", arguments.left, arguments), Side("Right", arguments.right, arguments)
+    verdict = sides[0].look.program().audit(*(side.look.file for side in sides))
     if verdict.agree is not None:
         print(f"No conflict: the two logs agree on {counted(verdict.agree, 'final block')}.")
-        return 0
-    print("\n".join(story(left, right, verdict)))
-    return 0
+    else:
+        print("\n".join(story(*sides, verdict)))
+    return check(sides)

@@ -11,7 +11,6 @@ import base64
 import gzip
 import hashlib
 import os
-import re
 import shutil
 import signal
 import subprocess
@@ -20,14 +19,16 @@ from html import escape
 
 sys.path.insert(0, os.path.dirname(os.path.dirname(os.path.abspath(__file__))))
 
-from lens.svg import STYLE, colour_rules  # noqa: E402
 from look.build import BuildError, Stages  # noqa: E402
 from look.sources import ROOT  # noqa: E402
 from page.module import made  # noqa: E402
+from view.parts import FACTS, VIEW, filled, policy, read, script_of, style_of  # noqa: E402
 
 HERE = os.path.dirname(os.path.abspath(__file__))
 BINDING = f"{ROOT}/bindings/js"
 MOST = 600_000
+# What runs in the worker beside the binding and the facts.
+BESIDE = ("signatures", "replay", "core_facts", "worker")
 WHICH = {
     True: "The core in this page is the proved library, compiled for WebAssembly",
     False: "NOTHING IS PROVED of the core in this page. It is for a first look: it tests at run time what a proof shows",
@@ -37,28 +38,6 @@ TRUSTED = (
     "browser. The text in grey boxes is what the program prints. Pictures, tables and the reading of version 2 prove "
     "nothing. The module is"
 )
-
-
-def read(path):
-    with open(path, encoding="utf-8") as it:
-        return it.read()
-
-
-def script_of(*paths):
-    """Modules as one script, which has no imports and no exports."""
-    text = "".join(read(it) for it in paths)
-    text = re.sub(r"^(?:import|export) \{[^}]*\}(?: from \"[^\"]*\")?;\n", "", text, flags=re.M)
-    return re.sub(r"^export ", "", text, flags=re.M)
-
-
-def hashed(text):
-    return f"'sha256-{base64.b64encode(hashlib.sha256(text.encode()).digest()).decode()}'"
-
-
-def policy(style, script):
-    """What the page may do: run this script and the worker in it, and reach nothing."""
-    parts = ["default-src 'none'", f"script-src {hashed(script)} 'wasm-unsafe-eval'", f"style-src {hashed(style)}"]
-    return "; ".join([*parts, "worker-src blob:", "connect-src 'none'", "base-uri 'none'", "form-action 'none'"])
 
 
 def commit():
@@ -75,22 +54,24 @@ def commit():
 
 def page(module, sources, is_proved):
     """The page with this module."""
-    style, script = STYLE + colour_rules() + read(f"{HERE}/page.css"), script_of(f"{HERE}/view.js", f"{HERE}/page.js")
+    style, script = style_of(f"{HERE}/page.css"), script_of(*VIEW, f"{HERE}/page.js")
     foot = f"{TRUSTED} {hashlib.sha256(module).hexdigest()}, of sources {sources}."
     parts = {
-        "POLICY": policy(style, script),
+        "POLICY": policy(style, script, " 'wasm-unsafe-eval'", "worker-src blob:"),
         "STYLE": style,
         "KIND": "proved" if is_proved else "unproved",
         "WHICH": escape(f"{WHICH[is_proved]}. It is of {commit()}."),
         "FOOT": escape(foot),
-        "WORKER": script_of(f"{BINDING}/log.js", f"{BINDING}/highway.js", f"{HERE}/worker.js"),
+        "WORKER": script_of(
+            *(f"{BINDING}/{it}.js" for it in ("log", "highway")), FACTS, *(f"{HERE}/{it}.js" for it in BESIDE)
+        ),
         "MODULE": base64.b64encode(gzip.compress(module, mtime=0)).decode(),
         "SCRIPT": script,
     }
-    for name in ("WORKER", "SCRIPT"):
-        if "</script" in parts[name].lower() or "<!--" in parts[name]:
-            raise BuildError(f"the script {name} would end its element")
-    return re.sub("@([A-Z]+)@", lambda found: parts[found[1]], read(f"{HERE}/page.html"))
+    try:
+        return filled(read(f"{HERE}/page.html"), parts)
+    except ValueError as error:
+        raise BuildError(str(error)) from error
 
 
 def words_of(words):

@@ -96,36 +96,54 @@ def proved_module(rtlib, crate, work):
 
 
 def state(is_proved):
-    """The sum of all that the module is made of."""
+    """The sum of the sources, the file of the module that they make, and that of the module for WebAssembly."""
     sources = sum_of_proofs(CRATE) if is_proved else sum_of_sources(CRATE)
-    own = sum_of_file(HEAP)[:16] + sum_of_file(os.path.realpath(__file__))[:16]
-    return sources, f"{KEPT}/{'proved' if is_proved else 'unproved'}-{sources[:24]}-{own[:8]}{own[16:24]}.wasm"
+    own = sum_of_file(HEAP)[:8] + sum_of_file(os.path.realpath(__file__))[:8]
+    path = f"{KEPT}/{'proved' if is_proved else 'unproved'}-{sources[:24]}"
+    return sources, f"{path}.module", f"{path}-{own}.wasm"
+
+
+def forget_others(paths):
+    """Removes what was kept of other sources, or of another way to compile."""
+    kind = os.path.basename(paths[0]).split("-")[0]
+    with contextlib.suppress(OSError):
+        for it in os.scandir(KEPT):
+            if it.name.startswith(f"{kind}-") and it.path not in paths:
+                os.remove(it.path)
+
+
+def read_module(rtlib, is_proved, to, stages):
+    """Reads hw_c, or proves it, and keeps the module that is handed to clang. It doesn't change with the way in which it
+    is compiled then."""
+    crate = crate_of(rtlib)
+    with tempfile.TemporaryDirectory(prefix="page-") as work:
+        with stages.stage(f"{CRATE} is {'proved' if is_proved else 'read without a proof'}"):
+            found = proved_module(rtlib, crate, work) if is_proved else module_of(rtlib, crate, work)[0]
+        shutil.copy(found, f"{to}.new")
+    os.replace(f"{to}.new", to)
+
+
+def crate_of(rtlib):
+    return next(it for it in rtlib.crates_below(ROOT) if it.name == CRATE)
 
 
 def made(is_proved, stages):
-    """Returns the file of the module, which is built where it isn't kept, and the sum of its sources."""
-    sources, path = state(is_proved)
+    """Returns the file of the module for WebAssembly, which is built where it isn't kept, and the sum of its sources."""
+    sources, module, path = state(is_proved)
     if os.path.isfile(path):
         return path, sources
     rtlib = toolchain()
     if rtlib is None:
         raise BuildError(f"there is no toolchain here that this script knows: {LINE} is wanted")
-    crate = next(it for it in rtlib.crates_below(ROOT) if it.name == CRATE)
     os.makedirs(KEPT, exist_ok=True)
+    if not os.path.isfile(module):
+        read_module(rtlib, is_proved, module, stages)
     with tempfile.TemporaryDirectory(prefix="page-") as work:
-        with stages.stage(f"{CRATE} is {'proved' if is_proved else 'read without a proof'}"):
-            found = proved_module(rtlib, crate, work) if is_proved else module_of(rtlib, crate, work)[0]
         with stages.stage("compiling it for WebAssembly"):
-            shutil.copy(webassembly(rtlib.KIT, found, names_of(crate), work, is_proved), f"{path}.new")
+            names = names_of(crate_of(rtlib))
+            shutil.copy(webassembly(rtlib.KIT, module, names, work, is_proved), f"{path}.new")
     os.replace(f"{path}.new", path)
-    with contextlib.suppress(OSError):
-        for it in os.scandir(KEPT):
-            if (
-                it.name.endswith(".wasm")
-                and it.path != path
-                and it.name.split("-")[0] == os.path.basename(path).split("-")[0]
-            ):
-                os.remove(it.path)
+    forget_others([module, path])
     return path, sources
 
 

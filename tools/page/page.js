@@ -1,20 +1,11 @@
-"use strict";
 // The page: takes files, hands them to the worker, and shows what it said. All that comes from a file is set as text.
 
-const FEW_LANES = 24;
-const at = (name) => document.getElementById(name);
-let worker = null, said = null, views = [], given = [];
+import { counted, element, line, mono } from "../view/elements.js";
+import { Panels } from "../view/panels.js";
+import { unitBeside } from "../view/unit.js";
 
-function element(name, kind, ...inside) {
-  const made = document.createElement(name);
-  if (kind) made.className = kind;
-  made.append(...inside.filter((it) => it !== null && it !== undefined && it !== false));
-  return made;
-}
-
-const line = (kind, ...inside) => element("p", kind, ...inside);
-const mono = (text) => element("span", "mono", text);
-const counted = (count, one, more = one + "s") => `${count} ${Number(count) === 1 ? one : more}`;
+const at = (name) => document.getElementById(name), panels = new Panels(at("pictures")), asked = new Map();
+let worker = null, starting = null, number = 0;
 
 function printed(of, text) {
   const made = element("pre", "program", text);
@@ -37,21 +28,35 @@ async function start() {
   worker.postMessage({ kind: "begin", module: await unpacked("module") });
 }
 
+function end() {
+  worker?.terminate();
+  worker = starting = null;
+}
+
 function hear(data) {
-  if (data.kind === "ready") document.body.dataset.state = "ready";
+  if (data.kind === "ready" && document.body.dataset.state === "begins") document.body.dataset.state = "ready";
   if (data.kind === "progress") progress(data);
   if (data.kind === "shown") show(data);
-  if (data.kind === "view") see(data.view);
-  if (data.kind === "lost") at(`lost${data.number}`).textContent = `there is no unit ${data.text}`;
+  if (data.kind === "answer") answered(data);
   if (data.kind === "failed") fail(data.text);
+}
+
+// What the view asks of a log is asked of the worker.
+function ask(log, question) {
+  worker.postMessage({ kind: "ask", id: ++number, number: log, question });
+  return new Promise((answer) => asked.set(number, answer));
+}
+
+function answered({ id, answer }) {
+  asked.get(id)?.(answer);
+  asked.delete(id);
 }
 
 function fail(text) {
   const isOld = /memory64|i64|index type|CompileError|LinkError/i.test(text);
   at("said").replaceChildren(line("alarm", text), line("", isOld ? "This browser has no WebAssembly with 64-bit memory: Chrome 133 and Firefox 134 have it." : ""));
   // What failed in the middle isn't used again.
-  worker?.terminate();
-  worker = null;
+  end();
   finish("failed");
 }
 
@@ -68,28 +73,26 @@ function progress({ text, done, all }) {
 
 async function take(files) {
   if (!files.length) return;
-  given = [...files];
+  const given = [...files];
   at("said").replaceChildren();
-  at("pictures").replaceChildren();
-  at("unit").hidden = true;
+  panels.clear();
+  asked.clear();
   at("going").hidden = false;
   document.body.dataset.state = "works";
-  views = [];
-  if (!worker) await start();
+  delete document.body.dataset.pictures;
+  await (starting ??= start());
   worker.postMessage({ kind: "work", files: given });
 }
 
 function stop() {
-  worker?.terminate();
-  worker = null;
+  end();
   at("said").replaceChildren(line("", "Stopped. Nothing was found out."));
   finish("stopped");
 }
 
 // ---- what was said
 
-function show(data) {
-  said = data.said;
+async function show({ said, took, firsts }) {
   const { logs, audit, certificate, strange, more } = said, box = at("said");
   box.replaceChildren();
   for (const name of strange) box.append(line("alarm", `${name} is no log, no certificate and no keys.`));
@@ -97,9 +100,12 @@ function show(data) {
   if (audit) box.append(auditCard(audit, logs));
   if (certificate) box.append(certificateCard(certificate));
   for (const log of logs) box.append(logCard(log));
-  box.append(line("quiet", `${Math.round(data.took)} ms`));
+  box.append(line("quiet", `${Math.round(took)} ms`));
   finish("done");
-  document.body.dataset.took = Math.round(data.took);
+  document.body.dataset.took = Math.round(took);
+  const shown = firsts.map((first, log) => first && { first, ask: (question) => ask(log, question), walks: true }).filter(Boolean);
+  await panels.show(shown, shown.map(({ first }) => first));
+  document.body.dataset.pictures = shown.length;
 }
 
 function networkLines({ instance, settings: { weights, total, faultTolerance, minExponent } }) {
@@ -152,7 +158,7 @@ function conflict({ verdict, culprits, threshold, evidence }, logs) {
 }
 
 function culpritPart({ validator, weight, units }) {
-  const pair = element("div", "pair", ...units.map((unit) => element("div", "side", line("quiet", `in ${unit.names.join(" and ")}`), unitTable(unit))));
+  const pair = element("div", "pair", ...units.map((unit) => unitBeside(`in ${unit.names.join(" and ")}`, unit)));
   return element("div", "culprit", element("h3", "", `Validator ${validator}, of weight ${weight}, made two units with one number`), pair);
 }
 
@@ -170,68 +176,6 @@ function certificateCard(certificate) {
   return card;
 }
 
-// ---- a unit
-
-function unitTable(unit) {
-  const rows = [
-    ["digest", unit.digest], ["made by", `validator ${unit.creator}, number ${unit.seq}`],
-    ["time", `${unit.time} ms, in the round of validator ${unit.leader} from ${unit.round} ms on`], ["it is", unit.state],
-    ["votes for", unit.vote], ["height", unit.height], ["value", unit.value], ["signature", unit.signature],
-    ...(unit.panorama ?? []).slice(0, 64).map((seen, who) => [`sees of ${who}`, seen.unit ?? seen.kind]),
-  ];
-  const shown = rows.filter(([, text]) => text !== null && text !== undefined);
-  return element("table", "", ...shown.map(([name, text]) => element("tr", "", element("td", "", name), element("td", "mono", String(text)))));
-}
-
-function pick(unit) {
-  at("unit").replaceChildren(element("h2", "", `${unit.value === null ? "Unit" : "Block"} ${unit.digest.slice(0, 8)}`), unitTable(unit));
-  at("unit").hidden = false;
-  at("unit").scrollIntoView({ block: "nearest" });
-}
-
-// ---- pictures
-
-function see(view) {
-  views[view.number] = view;
-  const shown = views.filter(Boolean), labels = labelsOf(shown), marks = twins(shown);
-  at("pictures").replaceChildren(...shown.map((each) => picture(each, labels, marks)));
-  document.body.dataset.pictures = shown.length;
-  const found = view.units.find((unit) => unit.digest === view.found);
-  if (found) pick(found);
-}
-
-function picture(view, labels, marks) {
-  const { weights } = said.logs[view.number].settings, last = view.from + view.units.length;
-  const ask = (more) => worker.postMessage({ kind: "stretch", number: view.number, ...more });
-  const button = (text, from, isOff) => {
-    const made = element("button", "", text);
-    made.disabled = isOff;
-    made.addEventListener("click", () => ask({ from }));
-    return made;
-  };
-  const walk = element("p", "", search(view.number, ask), button("earlier", view.from - view.most / 2, view.from === 0), button("later", view.from + view.most / 2, last >= view.count),
-    ` units ${view.from + 1} to ${last} of ${view.count} by time, not to scale. A number is the height of the block that a unit votes for.`);
-  const open = (round) => ask({ round });
-  const heat = weights.length > FEW_LANES || view.count > view.most;
-  const parts = [element("h2", "", said.logs[view.number].name)];
-  if (heat) parts.push(line("quiet", "Each cell is a validator in a round. Click a round to open it below."), legend(), element("div", "scroll", drawHeat(view, { weights, open })));
-  parts.push(walk, element("div", "scroll", drawGraph(view, { weights, labels, marks, pick })));
-  return element("section", "card", ...parts);
-}
-
-// A field for a digest or its beginning, a validator's number, or the height of a final block.
-function search(number, ask) {
-  const field = element("input", "search"), lost = element("span", "alarm");
-  Object.assign(field, { type: "search", placeholder: "digest, 1#20, height 7", ariaLabel: "find a unit" });
-  lost.id = `lost${number}`;
-  field.addEventListener("change", () => field.value && ask({ kind: "find", text: field.value }));
-  return element("span", "", field, " ", lost, " ");
-}
-
-function legend() {
-  return element("p", "legend", ...CELLS.flatMap((text, kind) => [element("span", `cell k${kind}`, ""), text + "  "]));
-}
-
 // ---- events
 
 // The input is emptied, so that a file which has changed since can be chosen once more.
@@ -242,4 +186,5 @@ at("files").addEventListener("change", (event) => {
 at("stop").addEventListener("click", stop);
 for (const kind of ["dragover", "drop"]) document.addEventListener(kind, (event) => event.preventDefault());
 document.addEventListener("drop", (event) => take(event.dataTransfer.files));
-start().catch((error) => fail(String(error)));
+starting = start();
+starting.catch((error) => fail(String(error)));

@@ -77,50 +77,58 @@ class Walks(Room):
     def setUp(self):
         super().setUp()
         self.world = running_example()
-        finals = [Final(0, self.world.units["a0"].unit.digest, 2, 9, 9, {1: (0, 1, 2), 2: (0, 1, 2)})]
-        path = self.file(spelled_log(self.world.config, self.world.pairs(EXAMPLE_ORDER), 2))
+        self.block = self.world.units["a0"].unit.digest
+        finals = [Final(0, self.block, 2, 9, 9, {1: (0, 1, 2), 2: (0, 1, 2)})]
+        self.path = self.file(spelled_log(self.world.config, self.world.pairs(EXAMPLE_ORDER), 2))
         self.stand = Stand(finals)
-        self.all, _ = self.panels(self.stand, path)
+        self.all, _ = self.panels(self.stand, self.path)
         self.data = panel_data(self.all[0], self.stand)
 
+    def name(self, name):
+        return self.world.units[name].unit.digest.hex()
+
     def test_what_became_final_and_faulty_when(self):
-        news = {place + 1: entry["news"] for place, entry in enumerate(self.data["entries"]) if entry["news"]}
-        self.assertEqual(
-            news,
-            {
-                5: ["validator 3 is faulty from here on"],
-                9: ["Block 0 became final: level 2, quorum 9, committee 1, 2 from 0/1/2"],
-            },
-        )
-        self.assertEqual([entry["finals"] for entry in self.data["entries"]], [0] * 8 + [1] * 5)
-        self.assertEqual([entry["faulty"] for entry in self.data["entries"]], [[]] * 4 + [[3]] * 9)
+        walk = list(enumerate(self.data["walk"], 1))
+        self.assertEqual([(place, step["faulty"]) for place, step in walk if step["faulty"]], [(5, [3])])
+        self.assertEqual([(place, step["finals"]) for place, step in walk if step["finals"]], [(9, [self.block.hex()])])
+        self.assertEqual(self.data["finals"][0]["committee"], "1, 2 from 0/1/2")
 
     def test_the_state_after_each_entry(self):
-        entries = self.data["entries"]
-        self.assertEqual([entry["counts"][0] for entry in entries], [*range(1, 11), 10, 10, 11])
-        labels = self.data["settings"]["labels"]
-        self.assertEqual([labels[entry["fork"]] for entry in entries], ["0"] * 7 + ["1a"] * 2 + ["1b"] * 3 + ["1a"])
-        self.assertEqual([entry["what"].split()[0] for entry in entries].count("endorsement"), 2)
+        walk = self.data["walk"]
+        self.assertEqual([step["counts"][0] for step in walk], [*range(1, 11), 10, 10, 11])
+        settled = [digest for step in walk for digest in step["settles"]]
+        self.assertEqual(sorted(settled), sorted(unit["digest"] for unit in self.data["units"]))
+        forks = [self.all[0].labels[bytes.fromhex(step["fork"])].text for step in walk]
+        self.assertEqual(forks, ["0"] * 7 + ["1a"] * 2 + ["1b"] * 3 + ["1a"])
+        self.assertEqual([step["what"].split()[0] for step in walk].count("endorsement"), 2)
 
     def test_a_unit_in_full(self):
         number = self.all[0].numbers[self.world.units["a1"].unit.digest]
         told, names = self.data["units"][number], list(self.all[0].numbers)
-        self.assertEqual((told["creator"], told["number"], told["time"], told["round"]), (0, "1", "58", "3"))
+        self.assertEqual((told["creator"], told["seq"], told["time"], told["round"]), (0, "1", "58", "48"))
         cited = [names.index(self.world.units[name].unit.digest) for name in ("a0", "b2", "c2")]
         self.assertEqual(told["panorama"], [*cited, -2])
-        self.assertEqual(told["endorsed"], [self.world.units["b2"].unit.digest.hex()])
-        self.assertIsNotNone(told["x"])
+        self.assertEqual(told["endorsed"], [self.name("b2")])
+        self.assertEqual(told["state"], "settled")
+
+    def test_starts_of_summits(self):
+        tags = {unit["digest"]: unit["tags"] for unit in self.data["units"]}
+        self.assertEqual(tags[self.name("b0")][0], {"kind": "start", "blocks": [self.block.hex()], "levels": [0]})
+        self.assertTrue(self.data["hasStarts"])
 
     def test_a_page_needs_no_network(self):
         said = page(self.all, self.stand, None)
-        self.assertFalse(re.search(r"(?:src|href)\s*=|url\(|@import|https?://(?!www\.w3\.org/2000/svg)", said))
+        self.assertFalse(
+            re.search(r"src\s*=|href\s*=\s*\"(?!#)|url\(|@import|https?://(?!www\.w3\.org/2000/svg)", said)
+        )
         self.assertIn("proves nothing", said)
-        self.assertEqual(len(data_of(said)[0]["entries"]), 13)
+        self.assertIn("default-src 'none'", said)
+        self.assertEqual(len(data_of(said)[0]["walk"]), 13)
 
-    def test_each_moment_is_an_entry(self):
-        said = page(self.all, self.stand, None)
-        moments = [int(place) for place in re.findall(r'data-(?:from|settled|accused)="(\d+)"', said)]
-        self.assertTrue(moments and all(1 <= place <= 13 for place in moments))
+    def test_rounds_that_werent_asked_for_are_hidden(self):
+        [panel], _ = make_panels([self.path], self.stand, Namespace(no_progress=True, rounds=(2, 2)))
+        hidden = [unit["isHidden"] for unit in panel_data(panel, self.stand)["units"]]
+        self.assertTrue(any(hidden) and not all(hidden))
 
 
 class Hostile(Room):
@@ -171,22 +179,22 @@ class Conflicts(Room):
         left, right, verdict, digest = self.sides()
         panels, said = self.panels(Stand(verdict=verdict), left, right)
         self.assertIs(said, verdict)
-        for panel, block, culprit in zip(panels, ("a0", "c0"), ("b0", "e0")):
-            self.assertEqual([tag.text for tag in panel.scene.spots[digest[block]].tags], ["conflict"])
-            self.assertTrue(panel.scene.spots[digest[culprit]].forked)
-        self.assertEqual([panels[0].labels[digest[name]].text for name in ("a0", "c0")], ["0a", "0b"])
-        self.assertEqual([panel.scene.rounds[0].number for panel in panels], [1, 2])
         made = page(panels, Stand(verdict=verdict), verdict)
         self.assertIn("a conflict at height 0", made)
         self.assertIn("weigh 1, above the threshold of 0", made)
-        self.assertEqual(len(data_of(made)), 2)
+        wanted = {"b0": "culprit", "e0": "culprit", "a0": "conflict", "c0": "conflict"}
+        for data in data_of(made):
+            self.assertEqual(data["marked"], {digest[name].hex(): word for name, word in wanted.items()})
+            self.assertEqual(data["first"], 0)
+        self.assertEqual([panels[0].labels[digest[name]].text for name in ("a0", "c0")], ["0a", "0b"])
 
     def test_agreement(self):
         left, right, _, _ = self.sides()
         verdict = Verdict("", agree=0)
         panels, _ = self.panels(Stand(verdict=verdict), left, right)
-        self.assertFalse(any(spot.forked or spot.tags for panel in panels for spot in panel.scene.spots.values()))
-        self.assertIn("the two agree", page(panels, Stand(verdict=verdict), verdict))
+        made = page(panels, Stand(verdict=verdict), verdict)
+        self.assertEqual([data["marked"] for data in data_of(made)], [{}, {}])
+        self.assertIn("the two agree", made)
 
     @unittest.skipUnless(has_program(), NO_PROGRAM)
     def test_the_shipped_conflict(self):

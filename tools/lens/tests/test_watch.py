@@ -76,7 +76,7 @@ class Growing(unittest.TestCase):
 
     @unittest.skipUnless(has_program(), "no built program: build crates/highway, or name one with HIGHWAY")
     def test_states(self):
-        watch = Watch(types.SimpleNamespace(log=str(self.path), program=None, now=100, json=False))
+        watch = Watch(types.SimpleNamespace(log=str(self.path), program=None, now=100, json=False, halt=None))
         watch.judge.next = 0.0
         self.path.write_bytes(self.said[: self.ends[7]])
         told = watch.state()
@@ -91,6 +91,53 @@ class Growing(unittest.TestCase):
         lines = list(screen(told, watch.follower.reading))
         self.assertIn("5 rounds of 16 ms since", lines[1])
         self.assertTrue(lines[-1].endswith("FAULTY"))
+
+    def watched(self, *words):
+        """The status, output and errors of a watch of one refresh."""
+        said, told = io.StringIO(), io.StringIO()
+        with contextlib.redirect_stdout(said), contextlib.redirect_stderr(told):
+            status = main(["watch", *map(str, words), "--count", "1", "--no-progress"])
+        return status, said.getvalue(), told.getvalue()
+
+    @unittest.skipUnless(has_program(), "no built program: build crates/highway, or name one with HIGHWAY")
+    def test_finality_that_halts(self):
+        word = "nothing became final since height 0, whose block is 4.0 s old"
+        for words, status, told in (
+            (("--now", "4016", "--halt", "3"), 3, f"lens: halted: {word}\n"),
+            (("--now", "4016", "--halt", "5"), 0, ""),
+            (("--now", "4016"), 0, ""),
+        ):
+            ended = self.watched(self.path, *words)
+            self.assertEqual((ended[0], ended[2]), (status, told))
+            self.assertEqual(f"HALTED   {word}" in ended[1], status == 3)
+        self.path.write_bytes(self.said[: self.ends[3]])
+        self.assertEqual(self.watched(self.path, "--now", "4016", "--halt", "3")[0], 3)
+        both = pathlib.Path(__file__).resolve().parents[3] / "crates/highway/data/both.hwlg"
+        status, said, told = self.watched(both, "--now", "100", "--halt", "1000")
+        self.assertEqual((status, told.count("exceed the threshold: nothing more becomes final")), (3, 1))
+        self.assertEqual(self.watched(both, "--now", "100")[0], 0)
+
+    @unittest.skipUnless(has_program(), "no built program: build crates/highway, or name one with HIGHWAY")
+    def test_a_text_for_prometheus(self):
+        file = self.path.with_name("metrics.prom")
+        self.assertEqual(self.watched(self.path, "--now", "100", "--metrics", file)[0], 0)
+        status, said, _ = self.watched(self.path, "--now", "100", "--metrics", "-")
+        self.assertEqual((status, said), (0, file.read_text()))
+        lines = said.splitlines()
+        for line in (
+            "highway_final_height 0",
+            "highway_final_age_seconds 0.084",
+            "highway_halted 0",
+            "highway_units 11",
+        ):
+            self.assertIn(line, lines)
+        self.assertIn('highway_faulty{validator="3"} 1', lines)
+        self.assertEqual(
+            [line.split()[2] for line in lines if line.startswith("# TYPE ")],
+            [line.split()[2] for line in lines if line.startswith("# HELP ")],
+        )
+        self.path.write_bytes(self.said[:3])
+        self.assertIn("highway_judged 0", self.watched(self.path, "--metrics", "-")[1])
 
     @unittest.skipUnless(has_program(), "no built program: build crates/highway, or name one with HIGHWAY")
     def test_lines_of_json(self):

@@ -8,7 +8,7 @@ from page.module import state
 
 def module():
     """The file of a module of these sources, proved or not, or None."""
-    return next((path for path in (state(True)[1], state(False)[1]) if os.path.isfile(path)), None)
+    return next((path for path in (state(True)[2], state(False)[2]) if os.path.isfile(path)), None)
 
 
 def program():

@@ -1,23 +1,20 @@
 """The page as a person uses it, in Chromium without a window: files are set into its input, and its texts are held
 against the program's, and against an independent reference's answers."""
 
+import random
 import re
 import shutil
 import subprocess
-import tempfile
 import unittest
 from dataclasses import replace
 from pathlib import Path
 
 from lens.log import SignedUnit, digest_of, is_signed, read_keys, read_log, spelled_log, with_digest
-from look.sources import ROOT
-from page.main import MOST, page, policy
-from page.tests.browser import Browser, found
-from page.tests.given import NO_MODULE, module, program
+from page.main import MOST, page
+from page.tests.on_page import CASES, DATA, LOGS, OnPage, stored
+from view.parts import policy
 
-DATA = Path(ROOT, "crates/highway/data")
-STORED = Path(ROOT, "bindings/rust/tests/data")
-LOGS = sorted(DATA.glob("*.hwlg"))
+RANDOM, LONG = 200, 100_000_000
 MARKUP = b'</script><script>document.title="x"</script><img src=x onerror=alert(1)>'
 
 
@@ -42,6 +39,19 @@ def with_public_keys(log, room):
     return spelled_log(log.config, pairs), side, "".join(public).encode()
 
 
+def changed(log, choose):
+    """The log's bytes, in one of both versions, with some entries left out, repeated, out of order, or badly signed."""
+    pairs = [(entry.verdict, entry.vertex) for entry in log.entries if choose.random() < 0.9]
+    for _ in range(choose.randrange(4)):
+        pairs.insert(choose.randrange(len(pairs) + 1), choose.choice(pairs or [(1, log.entries[0].vertex)]))
+    for _ in range(choose.randrange(3)):
+        place = choose.randrange(len(pairs) or 1)
+        pairs[place : place + 2] = pairs[place : place + 2][::-1]
+    return spelled_log(
+        log.config, [(verdict and choose.random() < 0.98, vertex) for verdict, vertex in pairs], choose.choice((1, 2))
+    )
+
+
 class Text(unittest.TestCase):
     def test_the_page_reaches_nothing(self):
         text = page(b"module", "0" * 64, False)
@@ -57,48 +67,20 @@ class Text(unittest.TestCase):
         self.assertNotIn("unsafe-inline", said)
 
 
-@unittest.skipUnless(found(), "there is no Chromium here")
-class InBrowser(unittest.TestCase):
-    @classmethod
-    def setUpClass(cls):
-        if not module():
-            raise unittest.SkipTest(NO_MODULE)
-        cls.room = tempfile.TemporaryDirectory(prefix="page-")
-        cls.addClassCleanup(cls.room.cleanup)
-        cls.file = Path(cls.room.name, "highway.html")
-        cls.file.write_text(page(Path(module()).read_bytes(), "0" * 64, False), encoding="utf-8")
-        cls.browser = Browser()
-        cls.addClassCleanup(cls.browser.close)
-        cls.browser.open(cls.file)
-
-    def write(self, name, data):
-        path = Path(self.room.name, name)
-        path.write_bytes(data)
-        return path
-
-    def dropped(self, of, *paths):
-        self.browser.drop(*paths)
-        self.assertEqual(self.state(), "done", self.shown())
-        return self.browser.printed(of)
-
-    def state(self):
-        return self.browser.value("document.body.dataset.state")
-
-    def shown(self):
-        return self.browser.value("document.body.innerText")
-
-    def said(self, *words):
-        if not program():
-            self.skipTest("there is no program of these sources here: HIGHWAY names one")
-        ran = subprocess.run([program(), *map(str, words)], capture_output=True, text=True, check=False)
-        # The page knows a file by its name, and the program by its path.
-        return re.sub(r"^input \S*/", "input ", ran.stdout)
-
+class AsAPerson(OnPage):
     # ---- against the program
 
     def test_each_log_is_replayed_as_the_program_does(self):
         for path in LOGS:
             self.assertEqual(self.dropped("replay", path), [self.said("replay", path)], path.name)
+
+    def test_each_log_of_the_cases_too(self):
+        for path in CASES:
+            if path.read_bytes().startswith(b"HWLG"):
+                self.assertEqual(self.dropped("replay", path), [self.said("replay", path)], path.name)
+            else:
+                self.assertEqual(self.dropped("replay", path), [], path.name)
+                self.assertIn(f"{path.name} is no log, no certificate and no keys.", self.shown())
 
     def test_each_log_of_version_2_too(self):
         for path in LOGS:
@@ -118,19 +100,21 @@ class InBrowser(unittest.TestCase):
                     path.write_bytes(spelled_log(log.config, changed, version))
                     self.assertEqual(self.dropped("replay", path), [self.said("replay", path)], source.name)
 
-    def test_random_pairs_are_audited_as_the_program_does(self):
+    def test_random_logs_and_pairs_are_answered_as_the_program_does(self):
         left, right, kinds = self.write("left.hwlg", b""), self.write("right.hwlg", b""), set()
-        for data, _ in self.stored("logs.bin", "answers.txt", 4):
-            left.write_bytes(data)
-            log = read_log(left)
-            pairs = [(entry.verdict, entry.vertex) for entry in log.entries]
-            for part, path in ((0, left), (1, right)):
-                kept = [pair for place, pair in enumerate(pairs) if place < 4 or place % 4 != part]
-                path.write_bytes(spelled_log(log.config, kept, 1 + part))
+        logs = [data for data, _ in stored("logs.bin", "answers.txt", 1)]
+        conflict = [read_log(DATA / name) for name in ("signed.hwlg", "signed-other.hwlg")]
+        for seed in range(RANDOM):
+            choose = random.Random(seed)
+            left.write_bytes(choose.choice(logs))
+            sources = [read_log(left)] * 2 if choose.random() < 0.7 else conflict
+            for path, log in zip((left, right), sources):
+                path.write_bytes(changed(log, choose))
             told = self.said("audit", left, right)
-            self.assertEqual(self.dropped("audit", left, right), [told])
+            self.assertEqual(self.dropped("audit", left, right), [told], seed)
+            self.assertEqual(self.browser.printed("replay"), [self.said("replay", it) for it in (left, right)], seed)
             kinds.add(told.split(" ")[0])
-        self.assertIn("agree", kinds)
+        self.assertLessEqual({"agree", "conflict"}, kinds)
 
     def test_logs_that_have_no_audit_are_answered_as_the_program_does(self):
         whole, other = (DATA / "signed.hwlg").read_bytes(), (DATA / "left.hwlg").read_bytes()
@@ -179,26 +163,15 @@ class InBrowser(unittest.TestCase):
 
     # ---- against the stored answers
 
-    def stored(self, logs, answers, each):
-        """Every so manieth log, and the end of its answers: the report, or the limit at which the program ends."""
-        data, at, files = (STORED / logs).read_bytes(), 0, []
-        texts = re.split(r"^case .*\n", (STORED / answers).read_text(), flags=re.M)[1:]
-        while at < len(data):
-            length = int.from_bytes(data[at : at + 4])
-            files.append(data[at + 4 : at + 4 + length])
-            at += 4 + length
-        self.assertEqual(len(files), len(texts))
-        return list(zip(files, texts))[::each]
-
     def test_stored_logs_are_reported_as_the_reference_does(self):
         path = self.write("stored.hwlg", b"")
-        for data, text in self.stored("logs.bin", "answers.txt", 1):
+        for data, text in stored("logs.bin", "answers.txt", 1):
             path.write_bytes(data)
             self.assertEqual(self.dropped("replay", path), [text[text.index("units ") :]])
 
     def test_limits_are_reported_as_the_reference_does(self):
         path = self.write("limits.hwlg", b"")
-        for data, text in self.stored("limits.bin", "limits.txt", 1):
+        for data, text in stored("limits.bin", "limits.txt", 1):
             path.write_bytes(data)
             self.assertEqual(self.dropped("replay", path), [text[text.index("limit ") :]])
 
@@ -252,41 +225,32 @@ class InBrowser(unittest.TestCase):
         name = "<img src=x onerror=alert(1)>.hwlg"
         self.dropped("replay", self.write(name, spelled_log(log.config, [(1, marked)])), self.write("<b>", b"none"))
         self.browser.wait("document.querySelector('[data-unit]') !== null")
-        self.browser.value(
-            "document.querySelector('[data-unit]').dispatchEvent(new MouseEvent('click', {bubbles: true}))"
-        )
+        self.browser.value("document.querySelector('[data-unit]').dispatchEvent(new Event('click', {bubbles: true}))")
+        self.browser.wait("document.querySelector('.picked h3') !== null")
         shown = self.shown()
         for text in (name, MARKUP.decode(), "<b> is no log"):
             self.assertIn(text, shown)
         self.assertEqual(self.browser.value("document.querySelectorAll('img, #said b, #said script').length"), 0)
         self.assertEqual(self.browser.value("document.title"), "Highway: audit in a browser")
 
-    def test_a_unit_is_found(self):
-        path = self.write("found.hwlg", self.stored("logs.bin", "answers.txt", 1)[0][0])
-        [text] = self.dropped("replay", path)
-        block = re.search(r"final 1 (\w+)", text)[1]
-        self.browser.wait("document.querySelector('input.search') !== null")
-        for asked in (block, block[:6], "height 1"):
-            self.browser.value("document.getElementById('unit').hidden = true")
-            self.find(asked)
-            self.browser.wait("!document.getElementById('unit').hidden")
-            self.assertIn(block, self.browser.value("document.getElementById('unit').innerText"))
-        self.find("0#0")
-        self.browser.wait("document.getElementById('unit').innerText.includes('validator 0, number 0')")
-        self.find("9#9")
-        self.browser.wait("document.body.innerText.includes('there is no unit 9#9')")
+    def test_the_page_reaches_no_network(self):
+        reached = "fetch(%s).then(() => 'reached', (error) => error.name)"
+        self.assertEqual(self.browser.value(reached % "'data:text/plain,x'"), "TypeError")
+        self.browser.value("document.body.append(Object.assign(new Image(), {src: 'data:image/gif;base64,x'}))")
+        self.browser.value("document.body.lastChild.setAttribute('onclick', 'document.title = 1')")
+        self.browser.value("document.body.lastChild.click()")
+        self.assertEqual(self.browser.value("document.title"), "Highway: audit in a browser")
+        self.browser.value("document.body.lastChild.remove()")
 
-    def find(self, text):
-        field = "document.querySelector('input.search')"
-        self.browser.value(f"{field}.value = '{text}'; {field}.dispatchEvent(new Event('change'))")
-
-    def test_a_long_log_goes_by_pieces_and_is_stopped(self):
+    def test_a_log_of_100_mb_goes_by_pieces_and_is_stopped(self):
         data = (DATA / "both.hwlg").read_bytes()
         log = read_log(DATA / "both.hwlg")
-        long = self.write("long.hwlg", data + data[log.entries[0].offset :] * 20_000)
+        times = -(-LONG // (len(data) - log.entries[0].offset))
+        long = self.write("long.hwlg", data + data[log.entries[0].offset :] * times)
         self.addCleanup(long.unlink)
         [text] = self.dropped("replay", long)
-        self.assertIn(f"repeats {len(log.entries) * 20_000}", text)
+        self.assertEqual(text, self.said("replay", long))
+        self.assertIn(f"repeats {len(log.entries) * times}", text)
         self.browser.value("document.body.dataset.state = 'asked'")
         root = self.browser.ask("DOM.getDocument")["root"]["nodeId"]
         node = self.browser.ask("DOM.querySelector", nodeId=root, selector="#files")["nodeId"]
