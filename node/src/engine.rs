@@ -1,4 +1,5 @@
-//! The core with its store: what comes is judged, delivered and committed, and only then acted upon.
+//! The core with its store: what comes is judged and delivered, and so is the own unit. All that a turn took and made is
+//! one commit, and only then it is acted upon.
 
 use crate::application::Application;
 use crate::error::Error;
@@ -39,8 +40,8 @@ pub enum Outcome {
 
 /// What came of asking for the own unit.
 pub enum Step {
-    /// It was made, and is to be sent.
-    Made(Parcel, News),
+    /// It was made, and is to be sent once it is committed.
+    Made(Parcel),
     /// None is due, and none becomes due before this moment while nothing comes in.
     Nothing { until: u64 },
 }
@@ -54,18 +55,17 @@ pub struct Engine {
     signatures: Detached,
     lanes: Lanes,
     faulty: BTreeSet<u32>,
+    /// What the core has and the store hasn't: nothing of it may be acted upon.
+    pending: Vec<Stored>,
 }
-
-/// The units that a turn added, for whoever shows them.
-pub type News = Vec<Unit>;
 
 impl Engine {
     /// A node that has again what its store holds.
     pub fn start(me: u32, keys: Keys, network: Network, store: Store) -> Result<Engine, Error> {
         let core = Core::new(&network.config)?;
         let lanes = Lanes::new(network.keys.0.len());
-        let (signatures, faulty) = (Detached::new(), BTreeSet::new());
-        let mut engine = Engine { me, core, store, keys, network, signatures, lanes, faulty };
+        let (signatures, faulty, pending) = (Detached::new(), BTreeSet::new(), Vec::new());
+        let mut engine = Engine { me, core, store, keys, network, signatures, lanes, faulty, pending };
         engine.replay()?;
         Ok(engine)
     }
@@ -126,14 +126,14 @@ impl Engine {
         Ok(())
     }
 
-    /// Takes what peers sent: judged, delivered, and committed when this returns. It answers each, and the new units.
+    /// Takes what peers sent: judged and delivered, and to be committed. It answers each.
     pub fn take(
         &mut self,
         parcels: Vec<Parcel>,
         wanted: &HashSet<Need>,
         now: u64,
         application: &mut dyn Application,
-    ) -> Result<(Vec<Outcome>, News), Error> {
+    ) -> Result<Vec<Outcome>, Error> {
         let (mut outcomes, mut places, mut good) = (Vec::new(), Vec::new(), Vec::new());
         for parcel in parcels {
             let outcome = self.screen(&parcel, wanted, now, application)?;
@@ -144,26 +144,30 @@ impl Engine {
             outcomes.push(outcome);
         }
         let answers = self.deliver(&good)?;
-        let is_new = |answer: &Result<Receipt, _>| matches!(answer, Ok(receipt) if *receipt != Receipt::Repeat);
-        let kept = good.iter().zip(&answers).filter(|(_, answer)| is_new(answer));
-        let kept: Vec<(&Parcel, bool)> = kept.map(|(stored, _)| (&stored.parcel, stored.verdict)).collect();
-        self.store.put(&kept)?;
-        let news = self.units_of(&kept)?;
-        for (place, answer) in places.into_iter().zip(answers) {
+        for ((place, stored), answer) in places.into_iter().zip(good).zip(answers) {
+            if matches!(answer, Ok(receipt) if receipt != Receipt::Repeat) {
+                self.pending.push(stored);
+            }
             outcomes[place] = outcome_of(answer);
         }
-        self.note_faulty()?;
-        Ok((outcomes, news))
+        Ok(outcomes)
     }
 
-    fn units_of(&self, kept: &[(&Parcel, bool)]) -> Result<News, Error> {
+    /// Commits all that was delivered since the last time: it is on the disk when this returns. It answers the units, or
+    /// None where there was nothing.
+    pub fn commit(&mut self) -> Result<Option<Vec<Unit>>, Error> {
+        if self.pending.is_empty() {
+            return Ok(None);
+        }
+        self.store.put(&self.pending)?;
         let mut units = Vec::new();
-        for (parcel, _) in kept {
-            if let Signatures::Unit(one) = Signatures::of(&parcel.vertex)? {
+        for stored in std::mem::take(&mut self.pending) {
+            if let Signatures::Unit(one) = Signatures::of(&stored.parcel.vertex)? {
                 units.extend(self.core.unit(one.unit)?);
             }
         }
-        Ok(units)
+        self.note_faulty()?;
+        Ok(Some(units))
     }
 
     /// What is said of a vertex before the core sees it: taken, if the core may.
@@ -206,7 +210,7 @@ impl Engine {
         })
     }
 
-    /// The own unit, where one is due: committed before it is delivered, and delivered before it is sent.
+    /// The own unit, where one is due: delivered, and to be committed before it is sent.
     pub fn step(&mut self, now: u64, application: &mut dyn Application) -> Result<Step, Error> {
         let journal = self.core.summary()?.journal;
         if journal >= u64::from(self.network.genesis.records) {
@@ -224,11 +228,10 @@ impl Engine {
         let slot = self.keys.signing.sign(false, plan.digest(), &mut self.signatures);
         let signature = self.signatures.get(&slot).map(<[u8]>::to_vec).unwrap_or_default();
         let parcel = Parcel { vertex: plan.signed(&slot)?, signatures: vec![signature] };
-        self.store.put(&[(&parcel, true)])?;
         self.core.deliver(&parcel.vertex, true).map_err(highway::Error::from)?;
         self.note(&parcel, journal)?;
-        let news = self.units_of(&[(&parcel, true)])?;
-        Ok(Step::Made(parcel, news))
+        self.pending.push(Stored { parcel: parcel.clone(), verdict: true });
+        Ok(Step::Made(parcel))
     }
 
     pub fn network(&self) -> &Network {

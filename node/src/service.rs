@@ -1,7 +1,7 @@
 //! A node at work: it hears its peers, answers them, makes its units, and asks for what it lacks.
 
 use crate::application::{Application, FinalBlock};
-use crate::engine::{Engine, News, Outcome, Step};
+use crate::engine::{Engine, Outcome, Step};
 use crate::error::Error;
 use crate::hex;
 use crate::links::{Asked, Links};
@@ -102,13 +102,15 @@ impl Service {
     fn turn(&mut self) -> Result<(), Error> {
         self.links.wait(pace::sleep(now(), self.until))?;
         let came = self.heard();
-        let has_news = self.take(came)?;
-        let has_stepped = self.step()?;
-        self.serve()?;
-        self.ask()?;
-        if has_news || has_stepped {
+        self.take(came)?;
+        let made = self.step()?;
+        if let Some(units) = self.engine.commit()? {
+            made.iter().for_each(|parcel| self.links.publish(parcel));
+            self.draw(&units);
             self.tell()?;
         }
+        self.serve()?;
+        self.ask()?;
         if self.shown_at.elapsed() >= SHOWN {
             self.show()?;
         }
@@ -145,15 +147,13 @@ impl Service {
         }
     }
 
-    /// Takes what came. Whether anything was new.
-    fn take(&mut self, came: Vec<(u32, Parcel)>) -> Result<bool, Error> {
+    fn take(&mut self, came: Vec<(u32, Parcel)>) -> Result<(), Error> {
         if came.is_empty() {
-            return Ok(false);
+            return Ok(());
         }
         let (senders, parcels): (Vec<u32>, Vec<Parcel>) = came.into_iter().unzip();
         let wanted = self.peers.wanted();
-        let (outcomes, news) = self.engine.take(parcels, &wanted, now(), self.application.as_mut())?;
-        let is_new = outcomes.iter().any(|outcome| matches!(outcome, Outcome::Taken | Outcome::Parked));
+        let outcomes = self.engine.take(parcels, &wanted, now(), self.application.as_mut())?;
         for (sender, outcome) in senders.into_iter().zip(outcomes) {
             *self.came.entry(name(outcome)).or_default() += 1;
             match outcome {
@@ -162,11 +162,10 @@ impl Service {
                 _ => (),
             }
         }
-        self.draw(&news);
-        Ok(is_new)
+        Ok(())
     }
 
-    fn draw(&self, news: &News) {
+    fn draw(&self, news: &[Unit]) {
         let mut view = self.shared.lock();
         news.iter().for_each(|unit| view.add_unit(unit));
     }
@@ -178,26 +177,23 @@ impl Service {
         peers
     }
 
-    /// Makes the own units that are due, and sends them.
-    fn step(&mut self) -> Result<bool, Error> {
+    /// Makes the own units that are due.
+    fn step(&mut self) -> Result<Vec<Parcel>, Error> {
         if self.is_waiting && !self.waits_for().is_empty() {
-            return Ok(false);
+            return Ok(Vec::new());
         }
         if self.is_waiting {
             self.is_waiting = false;
             tracing::info!("every peer was heard, so this validator makes its units");
         }
-        let before = self.own_units;
+        let mut made = Vec::new();
         loop {
             match self.engine.step(now(), self.application.as_mut())? {
-                Step::Made(parcel, news) => {
-                    self.links.publish(&parcel);
-                    self.own_units += 1;
-                    self.draw(&news);
-                }
+                Step::Made(parcel) => made.push(parcel),
                 Step::Nothing { until } => {
                     self.until = until;
-                    return Ok(self.own_units > before);
+                    self.own_units += made.len() as u64;
+                    return Ok(made);
                 }
             }
         }
