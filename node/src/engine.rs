@@ -7,6 +7,7 @@ use crate::genesis::Network;
 use crate::keys::Keys;
 use crate::lanes::Lanes;
 use crate::parcel::Parcel;
+use crate::quota::Quota;
 use crate::request::{Answer, Latest, Question, Request};
 use crate::store::{Store, Stored};
 use highway::{Core, Decision, Detached, Need, Place, PlanKind, Receipt, Sent, Signatures, Summary, Task, Unit};
@@ -15,6 +16,9 @@ use std::collections::{BTreeSet, HashSet};
 /// An answer has no more vertices, and no more bytes.
 const MOST_PARCELS: usize = 1024;
 const MOST_BYTES: usize = 1 << 20;
+
+/// So many vertices are judged before the next ones are: what the former say of a validator counts for the latter.
+const TOGETHER: usize = 64;
 
 /// A unit may be ahead of this node's clock by so many milliseconds.
 const EARLY: u64 = 5_000;
@@ -28,7 +32,7 @@ pub enum Outcome {
     Parked,
     /// It was here already.
     Repeat,
-    /// It is of a validator that is known as faulty, and nothing that waits needs it; or it is too early.
+    /// Nothing that waits needs it, and its validator is known as faulty or has its share; or it is too early.
     Unwanted,
     /// The application refuses its value.
     Invalid,
@@ -54,6 +58,7 @@ pub struct Engine {
     network: Network,
     signatures: Detached,
     lanes: Lanes,
+    quota: Quota,
     faulty: BTreeSet<u32>,
     /// What the core has and the store hasn't: nothing of it may be acted upon.
     pending: Vec<Stored>,
@@ -63,9 +68,10 @@ impl Engine {
     /// A node that has again what its store holds.
     pub fn start(me: u32, keys: Keys, network: Network, store: Store) -> Result<Engine, Error> {
         let core = Core::new(&network.config)?;
-        let lanes = Lanes::new(network.keys.0.len());
+        let validators = network.keys.0.len();
+        let (lanes, quota) = (Lanes::new(validators), Quota::new(validators, network.genesis.parked));
         let (signatures, faulty, pending) = (Detached::new(), BTreeSet::new(), Vec::new());
-        let mut engine = Engine { me, core, store, keys, network, signatures, lanes, faulty, pending };
+        let mut engine = Engine { me, core, store, keys, network, signatures, lanes, quota, faulty, pending };
         engine.replay()?;
         Ok(engine)
     }
@@ -113,6 +119,7 @@ impl Engine {
             && let Some(unit) = self.core.unit(one.unit)?
         {
             self.lanes.note(unit.creator, unit.seq, place, unit.digest);
+            self.quota.note(unit.creator, unit.digest, self.core.place(unit.digest)?);
         }
         Ok(())
     }
@@ -128,6 +135,21 @@ impl Engine {
 
     /// Takes what peers sent: judged and delivered, and to be committed. It answers each.
     pub fn take(
+        &mut self,
+        parcels: Vec<Parcel>,
+        wanted: &HashSet<Need>,
+        now: u64,
+        application: &mut dyn Application,
+    ) -> Result<Vec<Outcome>, Error> {
+        let (mut outcomes, mut parcels) = (Vec::new(), parcels.into_iter().peekable());
+        while parcels.peek().is_some() {
+            let some: Vec<Parcel> = parcels.by_ref().take(TOGETHER).collect();
+            outcomes.extend(self.take_some(some, wanted, now, application)?);
+        }
+        Ok(outcomes)
+    }
+
+    fn take_some(
         &mut self,
         parcels: Vec<Parcel>,
         wanted: &HashSet<Need>,
@@ -150,6 +172,7 @@ impl Engine {
             }
             outcomes[place] = outcome_of(answer);
         }
+        self.note_faulty()?;
         Ok(outcomes)
     }
 
@@ -166,13 +189,12 @@ impl Engine {
                 units.extend(self.core.unit(one.unit)?);
             }
         }
-        self.note_faulty()?;
         Ok(Some(units))
     }
 
     /// What is said of a vertex before the core sees it: taken, if the core may.
     fn screen(
-        &self,
+        &mut self,
         parcel: &Parcel,
         wanted: &HashSet<Need>,
         now: u64,
@@ -186,6 +208,9 @@ impl Engine {
             return Ok(Outcome::Junk);
         }
         let Some(unit) = self.core.read_unit(&parcel.vertex)? else { return Ok(Outcome::Taken) };
+        if unit.time < self.network.genesis.begin() {
+            return Ok(Outcome::Junk);
+        }
         if unit.time > now.saturating_add(EARLY) {
             return Ok(Outcome::Unwanted);
         }
@@ -196,14 +221,15 @@ impl Engine {
     }
 
     /// A vertex that is here already, or that one faulty key could make without end and nothing needs.
-    fn is_passed_over(&self, signed: &Signatures, wanted: &HashSet<Need>) -> Result<Option<Outcome>, Error> {
+    fn is_passed_over(&mut self, signed: &Signatures, wanted: &HashSet<Need>) -> Result<Option<Outcome>, Error> {
         let unless = |is_wanted: bool| (!is_wanted).then_some(Outcome::Unwanted);
         Ok(match signed {
             Signatures::Unit(one) if self.core.place(one.unit)? != Place::Unknown => Some(Outcome::Repeat),
-            Signatures::Unit(one) if self.faulty.contains(&one.validator) => {
-                unless(wanted.contains(&Need::Unit(one.unit)))
+            Signatures::Unit(one) if wanted.contains(&Need::Unit(one.unit)) => None,
+            Signatures::Unit(one) => {
+                let has_room = self.quota.has_room(one.validator, |unit| self.core.place(unit))?;
+                unless(has_room && !self.faulty.contains(&one.validator))
             }
-            Signatures::Unit(_) => None,
             Signatures::Evidence(one, _) if self.faulty.contains(&one.validator) => Some(Outcome::Repeat),
             Signatures::Evidence(..) => None,
             Signatures::Endorsement(one) => unless(wanted.contains(&Need::Endorsed(one.unit))),
@@ -213,8 +239,9 @@ impl Engine {
     /// The own unit, where one is due: delivered, and to be committed before it is sent.
     pub fn step(&mut self, now: u64, application: &mut dyn Application) -> Result<Step, Error> {
         let journal = self.core.summary()?.journal;
-        if journal >= u64::from(self.network.genesis.records) {
-            return Ok(Step::Nothing { until: u64::MAX });
+        let (records, begin) = (self.network.genesis.records, self.network.genesis.begin());
+        if journal >= u64::from(records) || now < begin {
+            return Ok(Step::Nothing { until: if now < begin { begin } else { u64::MAX } });
         }
         let due = self.core.due(self.me, now)?;
         let value = match due.task {

@@ -41,8 +41,10 @@ fn socket(context: &Context, kind: SocketType) -> Result<Socket, zmq::Error> {
     socket.set_sndhwm(MOST_WAITING)?;
     socket.set_rcvhwm(MOST_WAITING)?;
     socket.set_maxmsgsize(MOST_MESSAGE)?;
+    // Where packets vanish a try takes ever longer to send its first one again, so it ends early and another one begins.
+    socket.set_connect_timeout(500)?;
     socket.set_reconnect_ivl(100)?;
-    socket.set_reconnect_ivl_max(2000)?;
+    socket.set_reconnect_ivl_max(250)?;
     socket.set_handshake_ivl(5000)?;
     socket.set_heartbeat_ivl(2000)?;
     socket.set_heartbeat_timeout(6000)?;

@@ -18,6 +18,7 @@ mod pace;
 mod page;
 mod parcel;
 mod peers;
+mod quota;
 mod request;
 mod service;
 mod settings;
