@@ -1,9 +1,8 @@
 //! A validator's key in bad hands, for the tests: `hostile KEY GENESIS LOG VALIDATOR HOW`, with a log that a node exported.
 //!
-//! `deaf` connects to everybody and never reads. `greedy` asks everybody for everything again and again. `junk` sends
-//! requests that are none. The others flood: they send units of this key, at the validator's own address, as fast as the
-//! links take them. `forks` are all the first one; `breaks` break a rule of the units below them; `waits` cite what isn't
-//! there; `old` are a lawful chain from 1970 on.
+//! `deaf` connects to everybody and never reads. `greedy` asks everybody for everything again and again. The others flood:
+//! they send units of this key, at the validator's own address, thousands a second. `forks` are all the first one;
+//! `breaks` break a rule of the units below them; `waits` cite what isn't there; `old` are a lawful chain from 1970 on.
 
 use highway::{Core, Detached, Digest, Plan, PlanKind};
 use highway_ed25519::SecretKey;
@@ -79,21 +78,18 @@ impl Hostile {
         Ok(sockets)
     }
 
-    /// A request for all that there is, or none if it isn't `real`.
-    fn request(&self, is_real: bool) -> Vec<u8> {
-        let mut request = vec![0; 8];
-        request.push(1);
-        request.extend(self.validators.iter().flat_map(|_| [vec![1], vec![0; 40]].concat()));
-        request.truncate(if is_real { request.len() } else { 30 });
-        request
+    /// A request for all that there is.
+    fn request(&self) -> Vec<u8> {
+        let none_of_each = self.validators.iter().flat_map(|_| [vec![1], vec![0; 40]].concat());
+        [0; 8].into_iter().chain([1]).chain(none_of_each).collect()
     }
 
     /// Sends requests without end, and reads the answers or doesn't.
-    fn ask(&self, is_real: bool, is_deaf: bool) -> Done<()> {
+    fn ask(&self, is_deaf: bool) -> Done<()> {
         let (asking, hearing) = (self.dial(zmq::DEALER, "requests")?, self.dial(zmq::SUB, "vertices")?);
         loop {
             for socket in &asking {
-                let _ = socket.send(self.request(is_real), zmq::DONTWAIT);
+                let _ = socket.send(self.request(), zmq::DONTWAIT);
                 while !is_deaf && socket.recv_multipart(zmq::DONTWAIT).is_ok() {}
             }
             std::thread::sleep(Duration::from_millis(if is_deaf { 100 } else { 1 }));
@@ -166,9 +162,8 @@ fn main() -> Done<()> {
     }
     let hostile = Hostile::read(&words)?;
     match words[4].as_str() {
-        "deaf" => hostile.ask(true, true),
-        "greedy" => hostile.ask(true, false),
-        "junk" => hostile.ask(false, false),
+        "deaf" => hostile.ask(true),
+        "greedy" => hostile.ask(false),
         how => hostile.flood(how),
     }
 }

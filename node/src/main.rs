@@ -14,6 +14,7 @@ mod keys;
 mod lanes;
 mod links;
 mod local;
+mod map;
 mod pace;
 mod page;
 mod parcel;

@@ -50,6 +50,7 @@ def all_decide(network, count=1, seconds=120):
 
 def goes_on(network, blocks=5, seconds=60):
     """Waits until each node that runs has so many more final blocks."""
+    all_decide(network)
     before = [one["decided"] for one in network.statuses()]
 
     def holds():
@@ -286,7 +287,7 @@ def strangers(seconds):
         stop = threading.Event()
         last.callback(stop.set)
         threading.Thread(target=noise, args=(ports, stop), daemon=True).start()
-        for validator, how in ((2, "deaf"), (3, "greedy"), (1, "junk")):
+        for validator, how in ((2, "deaf"), (3, "greedy")):
             last.enter_context(hostile(network, validator, how))
         rounds, missing, latencies = look(network, seconds)
         late = max(missing) + sum(one > 1.5 for one in latencies) / 4
