@@ -1,4 +1,5 @@
-//! The core with its store: what comes is judged, delivered and committed, and only then acted upon.
+//! The core with its store: what comes is judged and delivered, and so is the own unit. All that a turn took and made is
+//! one commit, and only then it is acted upon.
 
 use crate::application::Application;
 use crate::error::Error;
@@ -6,6 +7,7 @@ use crate::genesis::Network;
 use crate::keys::Keys;
 use crate::lanes::Lanes;
 use crate::parcel::Parcel;
+use crate::quota::Quota;
 use crate::request::{Answer, Latest, Question, Request};
 use crate::store::{Store, Stored};
 use highway::{Core, Decision, Detached, Need, Place, PlanKind, Receipt, Sent, Signatures, Summary, Task, Unit};
@@ -14,6 +16,9 @@ use std::collections::{BTreeSet, HashSet};
 /// An answer has no more vertices, and no more bytes.
 const MOST_PARCELS: usize = 1024;
 const MOST_BYTES: usize = 1 << 20;
+
+/// So many vertices are judged before the next ones are: what the former say of a validator counts for the latter.
+const TOGETHER: usize = 64;
 
 /// A unit may be ahead of this node's clock by so many milliseconds.
 const EARLY: u64 = 5_000;
@@ -27,7 +32,7 @@ pub enum Outcome {
     Parked,
     /// It was here already.
     Repeat,
-    /// It is of a validator that is known as faulty, and nothing that waits needs it; or it is too early.
+    /// Nothing that waits needs it, and its validator is known as faulty or has its share; or it is too early.
     Unwanted,
     /// The application refuses its value.
     Invalid,
@@ -39,8 +44,8 @@ pub enum Outcome {
 
 /// What came of asking for the own unit.
 pub enum Step {
-    /// It was made, and is to be sent.
-    Made(Parcel, News),
+    /// It was made, and is to be sent once it is committed.
+    Made(Parcel),
     /// None is due, and none becomes due before this moment while nothing comes in.
     Nothing { until: u64 },
 }
@@ -53,19 +58,20 @@ pub struct Engine {
     network: Network,
     signatures: Detached,
     lanes: Lanes,
+    quota: Quota,
     faulty: BTreeSet<u32>,
+    /// What the core has and the store hasn't: nothing of it may be acted upon.
+    pending: Vec<Stored>,
 }
-
-/// The units that a turn added, for whoever shows them.
-pub type News = Vec<Unit>;
 
 impl Engine {
     /// A node that has again what its store holds.
     pub fn start(me: u32, keys: Keys, network: Network, store: Store) -> Result<Engine, Error> {
         let core = Core::new(&network.config)?;
-        let lanes = Lanes::new(network.keys.0.len());
-        let (signatures, faulty) = (Detached::new(), BTreeSet::new());
-        let mut engine = Engine { me, core, store, keys, network, signatures, lanes, faulty };
+        let validators = network.keys.0.len();
+        let (lanes, quota) = (Lanes::new(validators), Quota::new(validators, network.genesis.parked));
+        let (signatures, faulty, pending) = (Detached::new(), BTreeSet::new(), Vec::new());
+        let mut engine = Engine { me, core, store, keys, network, signatures, lanes, quota, faulty, pending };
         engine.replay()?;
         Ok(engine)
     }
@@ -113,6 +119,7 @@ impl Engine {
             && let Some(unit) = self.core.unit(one.unit)?
         {
             self.lanes.note(unit.creator, unit.seq, place, unit.digest);
+            self.quota.note(unit.creator, unit.digest, self.core.place(unit.digest)?);
         }
         Ok(())
     }
@@ -126,14 +133,29 @@ impl Engine {
         Ok(())
     }
 
-    /// Takes what peers sent: judged, delivered, and committed when this returns. It answers each, and the new units.
+    /// Takes what peers sent: judged and delivered, and to be committed. It answers each.
     pub fn take(
         &mut self,
         parcels: Vec<Parcel>,
         wanted: &HashSet<Need>,
         now: u64,
         application: &mut dyn Application,
-    ) -> Result<(Vec<Outcome>, News), Error> {
+    ) -> Result<Vec<Outcome>, Error> {
+        let (mut outcomes, mut parcels) = (Vec::new(), parcels.into_iter().peekable());
+        while parcels.peek().is_some() {
+            let some: Vec<Parcel> = parcels.by_ref().take(TOGETHER).collect();
+            outcomes.extend(self.take_some(some, wanted, now, application)?);
+        }
+        Ok(outcomes)
+    }
+
+    fn take_some(
+        &mut self,
+        parcels: Vec<Parcel>,
+        wanted: &HashSet<Need>,
+        now: u64,
+        application: &mut dyn Application,
+    ) -> Result<Vec<Outcome>, Error> {
         let (mut outcomes, mut places, mut good) = (Vec::new(), Vec::new(), Vec::new());
         for parcel in parcels {
             let outcome = self.screen(&parcel, wanted, now, application)?;
@@ -144,31 +166,35 @@ impl Engine {
             outcomes.push(outcome);
         }
         let answers = self.deliver(&good)?;
-        let is_new = |answer: &Result<Receipt, _>| matches!(answer, Ok(receipt) if *receipt != Receipt::Repeat);
-        let kept = good.iter().zip(&answers).filter(|(_, answer)| is_new(answer));
-        let kept: Vec<(&Parcel, bool)> = kept.map(|(stored, _)| (&stored.parcel, stored.verdict)).collect();
-        self.store.put(&kept)?;
-        let news = self.units_of(&kept)?;
-        for (place, answer) in places.into_iter().zip(answers) {
+        for ((place, stored), answer) in places.into_iter().zip(good).zip(answers) {
+            if matches!(answer, Ok(receipt) if receipt != Receipt::Repeat) {
+                self.pending.push(stored);
+            }
             outcomes[place] = outcome_of(answer);
         }
         self.note_faulty()?;
-        Ok((outcomes, news))
+        Ok(outcomes)
     }
 
-    fn units_of(&self, kept: &[(&Parcel, bool)]) -> Result<News, Error> {
+    /// Commits all that was delivered since the last time: it is on the disk when this returns. It answers the units, or
+    /// None where there was nothing.
+    pub fn commit(&mut self) -> Result<Option<Vec<Unit>>, Error> {
+        if self.pending.is_empty() {
+            return Ok(None);
+        }
+        self.store.put(&self.pending)?;
         let mut units = Vec::new();
-        for (parcel, _) in kept {
-            if let Signatures::Unit(one) = Signatures::of(&parcel.vertex)? {
+        for stored in std::mem::take(&mut self.pending) {
+            if let Signatures::Unit(one) = Signatures::of(&stored.parcel.vertex)? {
                 units.extend(self.core.unit(one.unit)?);
             }
         }
-        Ok(units)
+        Ok(Some(units))
     }
 
     /// What is said of a vertex before the core sees it: taken, if the core may.
     fn screen(
-        &self,
+        &mut self,
         parcel: &Parcel,
         wanted: &HashSet<Need>,
         now: u64,
@@ -182,6 +208,9 @@ impl Engine {
             return Ok(Outcome::Junk);
         }
         let Some(unit) = self.core.read_unit(&parcel.vertex)? else { return Ok(Outcome::Taken) };
+        if unit.time < self.network.genesis.begin() {
+            return Ok(Outcome::Junk);
+        }
         if unit.time > now.saturating_add(EARLY) {
             return Ok(Outcome::Unwanted);
         }
@@ -192,25 +221,27 @@ impl Engine {
     }
 
     /// A vertex that is here already, or that one faulty key could make without end and nothing needs.
-    fn is_passed_over(&self, signed: &Signatures, wanted: &HashSet<Need>) -> Result<Option<Outcome>, Error> {
+    fn is_passed_over(&mut self, signed: &Signatures, wanted: &HashSet<Need>) -> Result<Option<Outcome>, Error> {
         let unless = |is_wanted: bool| (!is_wanted).then_some(Outcome::Unwanted);
         Ok(match signed {
             Signatures::Unit(one) if self.core.place(one.unit)? != Place::Unknown => Some(Outcome::Repeat),
-            Signatures::Unit(one) if self.faulty.contains(&one.validator) => {
-                unless(wanted.contains(&Need::Unit(one.unit)))
+            Signatures::Unit(one) if wanted.contains(&Need::Unit(one.unit)) => None,
+            Signatures::Unit(one) => {
+                let has_room = self.quota.has_room(one.validator, |unit| self.core.place(unit))?;
+                unless(has_room && !self.faulty.contains(&one.validator))
             }
-            Signatures::Unit(_) => None,
             Signatures::Evidence(one, _) if self.faulty.contains(&one.validator) => Some(Outcome::Repeat),
             Signatures::Evidence(..) => None,
             Signatures::Endorsement(one) => unless(wanted.contains(&Need::Endorsed(one.unit))),
         })
     }
 
-    /// The own unit, where one is due: committed before it is delivered, and delivered before it is sent.
+    /// The own unit, where one is due: delivered, and to be committed before it is sent.
     pub fn step(&mut self, now: u64, application: &mut dyn Application) -> Result<Step, Error> {
         let journal = self.core.summary()?.journal;
-        if journal >= u64::from(self.network.genesis.records) {
-            return Ok(Step::Nothing { until: u64::MAX });
+        let (records, begin) = (self.network.genesis.records, self.network.genesis.begin());
+        if journal >= u64::from(records) || now < begin {
+            return Ok(Step::Nothing { until: if now < begin { begin } else { u64::MAX } });
         }
         let due = self.core.due(self.me, now)?;
         let value = match due.task {
@@ -224,11 +255,10 @@ impl Engine {
         let slot = self.keys.signing.sign(false, plan.digest(), &mut self.signatures);
         let signature = self.signatures.get(&slot).map(<[u8]>::to_vec).unwrap_or_default();
         let parcel = Parcel { vertex: plan.signed(&slot)?, signatures: vec![signature] };
-        self.store.put(&[(&parcel, true)])?;
         self.core.deliver(&parcel.vertex, true).map_err(highway::Error::from)?;
         self.note(&parcel, journal)?;
-        let news = self.units_of(&[(&parcel, true)])?;
-        Ok(Step::Made(parcel, news))
+        self.pending.push(Stored { parcel: parcel.clone(), verdict: true });
+        Ok(Step::Made(parcel))
     }
 
     pub fn network(&self) -> &Network {

@@ -38,6 +38,9 @@ pub struct Genesis {
     pub levels: u8,
     /// The least and the greatest exponent of a round, which lasts 2^exponent milliseconds.
     pub exponents: [u8; 2],
+    /// The millisecond since 1970 from which on units are made. A node refuses older ones, so that nobody can make one for
+    /// each round since then.
+    pub start: u64,
     /// How many vertices a journal may have.
     pub records: u32,
     /// How many units may wait.
@@ -84,12 +87,19 @@ impl Genesis {
         Ok(Network { genesis: self, config, instance, keys: PublicKeys(keys), links })
     }
 
-    /// The key by which leaders are drawn. It is made of the name and the validators' keys, so another name or another
-    /// validator is another instance.
+    /// The beginning of the longest round in which the start lies: no honest unit is older.
+    pub fn begin(&self) -> u64 {
+        let greatest = u32::from(self.exponents[1]).min(63);
+        self.start >> greatest << greatest
+    }
+
+    /// The key by which leaders are drawn. It is made of the name, the start and the validators' keys, so with another one
+    /// of them it is another instance.
     fn leaders_key(&self, keys: &[[u8; 32]]) -> [u8; 32] {
         let mut told = b"highway leaders\0".to_vec();
         told.extend((self.name.len() as u64).to_be_bytes());
         told.extend(self.name.as_bytes());
+        told.extend(self.start.to_be_bytes());
         told.extend(keys.concat());
         Detached::slot_of(&told)
     }

@@ -13,6 +13,12 @@ use zmq::{Context, Socket, SocketType};
 const MOST_WAITING: i32 = 4096;
 const MOST_MESSAGE: i64 = 2 << 20;
 
+/// So many answers wait for one peer that doesn't read them.
+const MOST_ANSWERS: i32 = 8;
+
+/// With more validators than so many a node tries and asks less often whether links are there, so that it costs no more.
+const MANY: usize = 16;
+
 /// The sockets that belong to one peer.
 struct Peer {
     validator: u32,
@@ -35,22 +41,30 @@ pub struct Asked {
     pub bytes: Vec<u8>,
 }
 
-fn socket(context: &Context, kind: SocketType) -> Result<Socket, zmq::Error> {
+fn socket(context: &Context, kind: SocketType, scale: i32) -> Result<Socket, zmq::Error> {
     let socket = context.socket(kind)?;
     socket.set_linger(100)?;
-    socket.set_sndhwm(MOST_WAITING)?;
+    socket.set_sndhwm(if kind == zmq::ROUTER { MOST_ANSWERS } else { MOST_WAITING })?;
     socket.set_rcvhwm(MOST_WAITING)?;
     socket.set_maxmsgsize(MOST_MESSAGE)?;
+    // Where packets vanish a try takes ever longer to send its first one again, so it ends early and another one begins.
+    socket.set_connect_timeout(500 * scale)?;
     socket.set_reconnect_ivl(100)?;
-    socket.set_reconnect_ivl_max(2000)?;
-    socket.set_handshake_ivl(5000)?;
-    socket.set_heartbeat_ivl(2000)?;
-    socket.set_heartbeat_timeout(6000)?;
+    socket.set_reconnect_ivl_max(250 * scale)?;
+    socket.set_handshake_ivl(5000 * scale)?;
+    socket.set_heartbeat_ivl(2000 * scale)?;
+    socket.set_heartbeat_timeout(6000 * scale)?;
     Ok(socket)
 }
 
-fn listening(context: &Context, kind: SocketType, keys: &Keys, address: &str) -> Result<Socket, zmq::Error> {
-    let socket = socket(context, kind)?;
+fn listening(
+    context: &Context,
+    kind: SocketType,
+    keys: &Keys,
+    scale: i32,
+    address: &str,
+) -> Result<Socket, zmq::Error> {
+    let socket = socket(context, kind, scale)?;
     socket.set_zap_domain("highway")?;
     socket.set_curve_server(true)?;
     socket.set_curve_publickey(&keys.link_public)?;
@@ -63,10 +77,11 @@ fn dialling(
     context: &Context,
     kind: SocketType,
     keys: &Keys,
+    scale: i32,
     server: &[u8; 32],
     address: &str,
 ) -> Result<Socket, zmq::Error> {
-    let socket = socket(context, kind)?;
+    let socket = socket(context, kind, scale)?;
     socket.set_immediate(true)?;
     socket.set_curve_serverkey(server)?;
     socket.set_curve_publickey(&keys.link_public)?;
@@ -80,13 +95,17 @@ fn dialling(
 
 impl Peer {
     fn dial(context: &Context, keys: &Keys, network: &Network, route: Route) -> Result<Peer, Error> {
-        let server = &network.links[route.validator as usize];
+        let (server, scale) = (&network.links[route.validator as usize], scale(network));
         let dial = |kind, address: &str| {
-            dialling(context, kind, keys, server, address).map_err(|error| Error::link(address, error))
+            dialling(context, kind, keys, scale, server, address).map_err(|error| Error::link(address, error))
         };
         let (vertices, requests) = (dial(zmq::SUB, &route.vertices)?, dial(zmq::DEALER, &route.requests)?);
         Ok(Peer { validator: route.validator, vertices, requests, route })
     }
+}
+
+fn scale(network: &Network) -> i32 {
+    network.links.len().div_ceil(MANY) as i32
 }
 
 /// The way to each validator: that of the genesis file, or another that the settings name.
@@ -107,23 +126,26 @@ impl Links {
         let mut routes = routes(network, settings);
         let own = routes.remove(me as usize);
         let [vertices, requests] = settings.listen.clone().unwrap_or([own.vertices, own.requests]);
-        let listen =
-            |kind, address: &str| listening(&context, kind, keys, address).map_err(|error| Error::link(address, error));
+        let scale = scale(network);
+        let listen = |kind, address: &str| {
+            listening(&context, kind, keys, scale, address).map_err(|error| Error::link(address, error))
+        };
         let (vertices, requests) = (listen(zmq::PUB, &vertices)?, listen(zmq::ROUTER, &requests)?);
         let peers = routes.into_iter().map(|route| Peer::dial(&context, keys, network, route));
         let peers = peers.collect::<Result<_, _>>()?;
         Ok(Links { vertices, requests, peers, _context: context })
     }
 
-    /// Waits until something came, or so long.
-    pub fn wait(&self, longest: Duration) -> Result<(), Error> {
+    /// Waits until something came, or so long. Whether something came.
+    pub fn wait(&self, longest: Duration) -> Result<bool, Error> {
         let mut items = vec![self.requests.as_poll_item(zmq::POLLIN)];
         for peer in &self.peers {
             items.push(peer.vertices.as_poll_item(zmq::POLLIN));
             items.push(peer.requests.as_poll_item(zmq::POLLIN));
         }
         match zmq::poll(&mut items, longest.as_millis() as i64) {
-            Ok(_) | Err(zmq::Error::EINTR) => Ok(()),
+            Ok(came) => Ok(came > 0),
+            Err(zmq::Error::EINTR) => Ok(false),
             Err(error) => Err(Error::link("poll", error)),
         }
     }

@@ -30,6 +30,7 @@ impl Wishes {
             threshold: self.threshold.unwrap_or(total.saturating_sub(1) / 3),
             levels: self.levels,
             exponents: self.exponents,
+            start: crate::service::now(),
             records,
             parked: 4096,
             end: None,

@@ -1,21 +1,27 @@
 //! The page of a node, and the signals that end it, in a thread of their own.
 
 use crate::error::Error;
-use crate::view::Shared;
+use crate::view::{Seen, Shared};
+use hyper::body::Sender;
 use hyper::header::{CONTENT_DISPOSITION, CONTENT_SECURITY_POLICY, CONTENT_TYPE, HeaderValue};
 use hyper::service::{make_service_fn, service_fn};
 use hyper::{Body, Method, Request, Response, Server, StatusCode};
 use std::convert::Infallible;
 use std::net::SocketAddr;
 use std::sync::Arc;
-use std::sync::atomic::{AtomicBool, Ordering};
+use std::sync::atomic::{AtomicBool, AtomicUsize, Ordering};
 use std::thread;
+use std::time::Duration;
 use tokio::signal::unix::{SignalKind, signal};
 
 const PAGE: &str = include_str!("page.html");
 
 /// The page may load its own data and nothing else.
 const POLICY: &str = "default-src 'none'; style-src 'unsafe-inline'; script-src 'unsafe-inline'; connect-src 'self'";
+
+/// So many pages are told of what happens at once, and each so often.
+const MOST_TOLD: usize = 32;
+const OFTEN: Duration = Duration::from_millis(100);
 
 /// Serves the page, and says by the flag that a signal asked this process to end.
 pub fn start(address: SocketAddr, shared: Shared, is_ending: Arc<AtomicBool>) -> Result<(), Error> {
@@ -33,9 +39,10 @@ async fn serve(listener: std::net::TcpListener, shared: Shared, is_ending: Arc<A
     for kind in [SignalKind::terminate(), SignalKind::interrupt()] {
         tokio::spawn(wait_for_signal(kind, is_ending.clone()));
     }
+    let told = Arc::new(AtomicUsize::new(0));
     let make = make_service_fn(|_| {
-        let shared = shared.clone();
-        async { Ok::<_, Infallible>(service_fn(move |asked| respond(asked, shared.clone()))) }
+        let (shared, told) = (shared.clone(), told.clone());
+        async { Ok::<_, Infallible>(service_fn(move |asked| respond(asked, shared.clone(), told.clone()))) }
     });
     let ended = match Server::from_tcp(listener) {
         Ok(server) => server.serve(make).await,
@@ -55,9 +62,12 @@ async fn wait_for_signal(kind: SignalKind, is_ending: Arc<AtomicBool>) {
     }
 }
 
-async fn respond(asked: Request<Body>, shared: Shared) -> Result<Response<Body>, Infallible> {
+async fn respond(asked: Request<Body>, shared: Shared, told: Arc<AtomicUsize>) -> Result<Response<Body>, Infallible> {
     if asked.method() != Method::GET {
         return Ok(reply(StatusCode::METHOD_NOT_ALLOWED, "text/plain", "GET alone\n"));
+    }
+    if asked.uri().path() == "/events" {
+        return Ok(events(shared, told));
     }
     let view = shared.lock();
     Ok(match asked.uri().path() {
@@ -71,10 +81,36 @@ async fn respond(asked: Request<Body>, shared: Shared) -> Result<Response<Body>,
         "/healthz" if view.is_healthy() => reply(StatusCode::OK, "text/plain", "blocks become final\n"),
         "/healthz" => reply(StatusCode::SERVICE_UNAVAILABLE, "text/plain", "no block became final lately\n"),
         path => match evidence(path, &shared_culprits(&view)) {
-            Some(bytes) => download(bytes),
+            Some((validator, bytes)) => download(validator, bytes),
             None => reply(StatusCode::NOT_FOUND, "text/plain", "no such page\n"),
         },
     })
+}
+
+/// What happens, as server-sent events, where not too many are told already.
+fn events(shared: Shared, told: Arc<AtomicUsize>) -> Response<Body> {
+    if told.fetch_add(1, Ordering::Relaxed) >= MOST_TOLD {
+        told.fetch_sub(1, Ordering::Relaxed);
+        return reply(StatusCode::SERVICE_UNAVAILABLE, "text/plain", "too many pages are open\n");
+    }
+    let (sender, body) = Body::channel();
+    tokio::spawn(async move {
+        tell(sender, shared).await;
+        told.fetch_sub(1, Ordering::Relaxed);
+    });
+    reply(StatusCode::OK, "text/event-stream", body)
+}
+
+/// Tells one page, until it goes away.
+async fn tell(mut sender: Sender, shared: Shared) {
+    let mut seen = Seen::default();
+    loop {
+        let text = format!("data: {}\n\n", shared.lock().news(&mut seen));
+        if sender.send_data(text.into()).await.is_err() {
+            return;
+        }
+        tokio::time::sleep(OFTEN).await;
+    }
 }
 
 fn shared_culprits(view: &crate::view::View) -> Vec<(u32, Vec<u8>)> {
@@ -82,9 +118,9 @@ fn shared_culprits(view: &crate::view::View) -> Vec<(u32, Vec<u8>)> {
 }
 
 /// The proof that this path names.
-fn evidence(path: &str, culprits: &[(u32, Vec<u8>)]) -> Option<Vec<u8>> {
+fn evidence(path: &str, culprits: &[(u32, Vec<u8>)]) -> Option<(u32, Vec<u8>)> {
     let validator: u32 = path.strip_prefix("/evidence/")?.parse().ok()?;
-    culprits.iter().find(|(one, _)| *one == validator).map(|(_, bytes)| bytes.clone())
+    culprits.iter().find(|(one, _)| *one == validator).cloned()
 }
 
 fn reply(status: StatusCode, kind: &'static str, body: impl Into<Body>) -> Response<Body> {
@@ -95,9 +131,11 @@ fn reply(status: StatusCode, kind: &'static str, body: impl Into<Body>) -> Respo
     response
 }
 
-fn download(bytes: Vec<u8>) -> Response<Body> {
+fn download(validator: u32, bytes: Vec<u8>) -> Response<Body> {
     let mut response = reply(StatusCode::OK, "application/octet-stream", bytes);
-    let name = HeaderValue::from_static("attachment; filename=\"evidence.bin\"");
-    response.headers_mut().insert(CONTENT_DISPOSITION, name);
+    let name = format!("attachment; filename=\"evidence-{validator}.bin\"");
+    if let Ok(name) = HeaderValue::from_str(&name) {
+        response.headers_mut().insert(CONTENT_DISPOSITION, name);
+    }
     response
 }

@@ -9,7 +9,9 @@ use std::time::{Duration, Instant};
 /// An answer is waited for so long.
 const PATIENCE: Duration = Duration::from_secs(2);
 
-/// Between two comparisons with one peer, and between two tries at one that isn't connected.
+/// Between two comparisons with one peer, and between two tries at one that isn't connected. Of more peers than so many
+/// each is compared with less often, so that comparisons cost a node no more.
+const OFTEN: usize = 8;
 const COMPARE: Duration = Duration::from_secs(2);
 const RETRY: Duration = Duration::from_millis(250);
 
@@ -65,6 +67,8 @@ pub struct Peers {
     /// Whether the last difference had more. Then peers are compared with one after the other, part by part, so that no
     /// part comes from two, and none of them can hold the others up.
     is_behind: bool,
+    /// Between two comparisons with one peer.
+    compare: Duration,
     number: u64,
 }
 
@@ -79,8 +83,9 @@ impl Peers {
             away_until: None,
             served_until: now,
         };
-        let peers = validators.map(|validator| (validator, peer())).collect();
-        Peers { peers, wanted: HashMap::new(), source: None, is_behind: false, number: 0 }
+        let peers: BTreeMap<u32, Peer> = validators.map(|validator| (validator, peer())).collect();
+        let compare = COMPARE * peers.len().div_ceil(OFTEN).max(1) as u32;
+        Peers { peers, wanted: HashMap::new(), source: None, is_behind: false, compare, number: 0 }
     }
 
     /// The needs that are asked for.
@@ -162,7 +167,7 @@ impl Peers {
         peer.is_answering = true;
         if open.needs.is_empty() {
             peer.is_compared |= !has_more;
-            peer.compare_at = if has_more { now } else { now + COMPARE };
+            peer.compare_at = if has_more { now } else { now + self.compare };
             self.is_behind = has_more;
         }
         self.release(&open.needs, now);

@@ -1,7 +1,7 @@
 //! A node at work: it hears its peers, answers them, makes its units, and asks for what it lacks.
 
 use crate::application::{Application, FinalBlock};
-use crate::engine::{Engine, News, Outcome, Step};
+use crate::engine::{Engine, Outcome, Step};
 use crate::error::Error;
 use crate::hex;
 use crate::links::{Asked, Links};
@@ -11,7 +11,7 @@ use crate::peers::Peers;
 use crate::request::{Answer, Question, Request};
 use crate::view::{Culprit, Shared, Status};
 use highway::{Decision, Signatures, Unit};
-use std::collections::{BTreeMap, HashSet};
+use std::collections::{BTreeMap, HashSet, VecDeque};
 use std::sync::atomic::{AtomicBool, Ordering};
 use std::time::{Duration, Instant, SystemTime, UNIX_EPOCH};
 
@@ -20,6 +20,9 @@ const MOST_HEARD: usize = 256;
 
 /// In one turn so many requests are read.
 const MOST_ASKED: usize = 256;
+
+/// So many requests of one peer wait.
+const MOST_OPEN: usize = 4;
 
 /// What is shown is made anew after this time.
 const SHOWN: Duration = Duration::from_millis(200);
@@ -32,8 +35,9 @@ pub struct Service {
     shared: Shared,
     /// The peers that need not be heard before the first own unit: the operator says so.
     without: HashSet<u32>,
-    /// The request of each peer that isn't answered yet: one at most.
-    asked: BTreeMap<u32, Asked>,
+    /// The requests of each peer that aren't answered yet, the oldest first: one of each of its connections, and a few at
+    /// most. So who has a validator's key too can't keep it from being answered.
+    asked: BTreeMap<u32, VecDeque<Asked>>,
     told: u64,
     own_units: u64,
     came: BTreeMap<&'static str, u64>,
@@ -42,10 +46,12 @@ pub struct Service {
     until: u64,
     warned_at: u64,
     shown_at: Instant,
+    /// What comes within this time shares a turn, and so a commit.
+    gathers: Duration,
 }
 
 /// This moment in milliseconds since 1970.
-fn now() -> u64 {
+pub fn now() -> u64 {
     SystemTime::now().duration_since(UNIX_EPOCH).map_or(0, |time| time.as_millis() as u64)
 }
 
@@ -70,6 +76,7 @@ impl Service {
         without: HashSet<u32>,
     ) -> Service {
         let peers = Peers::new(links.validators(), Instant::now());
+        let gathers = pace::gathers(engine.network().genesis.exponents[0]);
         Service {
             engine,
             links,
@@ -85,6 +92,7 @@ impl Service {
             until: u64::MAX,
             warned_at: 0,
             shown_at: Instant::now(),
+            gathers,
         }
     }
 
@@ -100,15 +108,19 @@ impl Service {
     }
 
     fn turn(&mut self) -> Result<(), Error> {
-        self.links.wait(pace::sleep(now(), self.until))?;
+        if self.links.wait(pace::sleep(now(), self.until))? {
+            std::thread::sleep(self.gathers);
+        }
         let came = self.heard();
-        let has_news = self.take(came)?;
-        let has_stepped = self.step()?;
-        self.serve()?;
-        self.ask()?;
-        if has_news || has_stepped {
+        self.take(came)?;
+        let made = self.step()?;
+        if let Some(units) = self.engine.commit()? {
+            made.iter().for_each(|parcel| self.links.publish(parcel));
+            self.draw(&units);
             self.tell()?;
         }
+        self.serve()?;
+        self.ask()?;
         if self.shown_at.elapsed() >= SHOWN {
             self.show()?;
         }
@@ -145,15 +157,13 @@ impl Service {
         }
     }
 
-    /// Takes what came. Whether anything was new.
-    fn take(&mut self, came: Vec<(u32, Parcel)>) -> Result<bool, Error> {
+    fn take(&mut self, came: Vec<(u32, Parcel)>) -> Result<(), Error> {
         if came.is_empty() {
-            return Ok(false);
+            return Ok(());
         }
         let (senders, parcels): (Vec<u32>, Vec<Parcel>) = came.into_iter().unzip();
         let wanted = self.peers.wanted();
-        let (outcomes, news) = self.engine.take(parcels, &wanted, now(), self.application.as_mut())?;
-        let is_new = outcomes.iter().any(|outcome| matches!(outcome, Outcome::Taken | Outcome::Parked));
+        let outcomes = self.engine.take(parcels, &wanted, now(), self.application.as_mut())?;
         for (sender, outcome) in senders.into_iter().zip(outcomes) {
             *self.came.entry(name(outcome)).or_default() += 1;
             match outcome {
@@ -162,13 +172,12 @@ impl Service {
                 _ => (),
             }
         }
-        self.draw(&news);
-        Ok(is_new)
+        Ok(())
     }
 
-    fn draw(&self, news: &News) {
+    fn draw(&self, news: &[Unit]) {
         let mut view = self.shared.lock();
-        news.iter().for_each(|unit| view.add_unit(unit));
+        news.iter().for_each(|unit| view.add_unit(unit, now()));
     }
 
     /// The peers that must be heard before the first own unit.
@@ -178,41 +187,43 @@ impl Service {
         peers
     }
 
-    /// Makes the own units that are due, and sends them.
-    fn step(&mut self) -> Result<bool, Error> {
+    /// Makes the own units that are due.
+    fn step(&mut self) -> Result<Vec<Parcel>, Error> {
         if self.is_waiting && !self.waits_for().is_empty() {
-            return Ok(false);
+            return Ok(Vec::new());
         }
         if self.is_waiting {
             self.is_waiting = false;
             tracing::info!("every peer was heard, so this validator makes its units");
         }
-        let before = self.own_units;
+        let mut made = Vec::new();
         loop {
             match self.engine.step(now(), self.application.as_mut())? {
-                Step::Made(parcel, news) => {
-                    self.links.publish(&parcel);
-                    self.own_units += 1;
-                    self.draw(&news);
-                }
+                Step::Made(parcel) => made.push(parcel),
                 Step::Nothing { until } => {
                     self.until = until;
-                    return Ok(self.own_units > before);
+                    self.own_units += made.len() as u64;
+                    return Ok(made);
                 }
             }
         }
     }
 
-    /// Answers requests: one of each peer at a time, and no more than its share.
+    /// Answers requests: the oldest of each peer, and no more than its share.
     fn serve(&mut self) -> Result<(), Error> {
         for _ in 0..MOST_ASKED {
             let Some(asked) = self.links.asked() else { break };
-            self.asked.insert(asked.validator, asked);
+            let open = self.asked.entry(asked.validator).or_default();
+            match open.iter().position(|other| other.back == asked.back) {
+                Some(place) => open[place] = asked,
+                None if open.len() < MOST_OPEN => open.push_back(asked),
+                None => (),
+            }
         }
         let ready: Vec<u32> =
             self.asked.keys().copied().filter(|one| self.peers.may_be_served(*one, Instant::now())).collect();
         for validator in ready {
-            let Some(asked) = self.asked.remove(&validator) else { continue };
+            let Some(asked) = self.asked.get_mut(&validator).and_then(VecDeque::pop_front) else { continue };
             match Request::read(&asked.bytes, self.engine.network().keys.0.len()) {
                 Some(request) => self.reply(&asked, &request)?,
                 None => self.junk(validator),

@@ -70,15 +70,12 @@ impl Store {
     }
 
     /// Commits vertices that the core took, all at once. They are on the disk when this returns.
-    pub fn put(&mut self, vertices: &[(&Parcel, bool)]) -> Result<(), Error> {
-        if vertices.is_empty() {
-            return Ok(());
-        }
+    pub fn put(&mut self, vertices: &[Stored]) -> Result<(), Error> {
         let transaction = self.connection.transaction()?;
         {
             let mut insert =
                 transaction.prepare_cached("INSERT INTO vertex (verdict, bytes, signatures) VALUES (?1, ?2, ?3)")?;
-            for (parcel, verdict) in vertices {
+            for Stored { parcel, verdict } in vertices {
                 insert.execute(params![verdict, parcel.vertex, parcel.beside()])?;
             }
         }

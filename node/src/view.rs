@@ -1,6 +1,7 @@
 //! What a node shows: its state, its recent units, its final blocks, and who is faulty with which proof.
 
 use crate::hex;
+use crate::map::Map;
 use crate::peers::PeerState;
 use highway::{Observation, Unit};
 use serde::Serialize;
@@ -11,6 +12,9 @@ use std::sync::{Arc, Mutex, MutexGuard, PoisonError};
 /// So many units and blocks are shown.
 const MOST_UNITS: usize = 600;
 const MOST_BLOCKS: usize = 200;
+
+/// Of more validators than so many no citations are drawn.
+const MOST_CITING: usize = 24;
 
 #[derive(Clone, Debug, Default, Serialize)]
 pub struct Status {
@@ -78,8 +82,18 @@ pub struct Culprit {
 pub struct View {
     pub status: Status,
     units: VecDeque<Drawn>,
+    /// So many units were added, those that are no longer shown among them.
+    added: usize,
+    map: Map,
     blocks: VecDeque<Block>,
     pub culprits: Vec<Culprit>,
+}
+
+/// How many units and blocks somebody who looks has seen.
+#[derive(Debug, Default, PartialEq, Eq)]
+pub struct Seen {
+    units: usize,
+    blocks: u64,
 }
 
 #[derive(Clone, Debug, Default)]
@@ -97,7 +111,9 @@ fn short(digest: &[u8]) -> String {
 }
 
 impl View {
-    pub fn add_unit(&mut self, unit: &Unit) {
+    pub fn add_unit(&mut self, unit: &Unit, now: u64) {
+        self.added += 1;
+        self.map.note(unit, now);
         let cited = |seen: &Observation| match seen {
             Observation::Correct(digest) => Some(short(&digest.0)),
             _ => None,
@@ -109,7 +125,7 @@ impl View {
             time: unit.time,
             round: unit.round,
             is_block: unit.value.is_some(),
-            cites: unit.panorama.iter().filter_map(cited).collect(),
+            cites: unit.panorama.iter().filter(|_| unit.panorama.len() <= MOST_CITING).filter_map(cited).collect(),
         });
         if self.units.len() > MOST_UNITS {
             self.units.pop_front();
@@ -138,8 +154,20 @@ impl View {
     }
 
     pub fn to_json(&self) -> String {
+        self.news(&mut Seen::default())
+    }
+
+    /// All that is shown now, but for the units and blocks that somebody has seen.
+    pub fn news(&self, seen: &mut Seen) -> String {
+        let is_first = *seen == Seen::default();
+        let units = self.units.len().min(self.added - seen.units.min(self.added));
+        let units: Vec<&Drawn> = self.units.iter().rev().take(units).rev().collect();
+        let blocks: Vec<&Block> = self.blocks.iter().filter(|block| block.height >= seen.blocks).collect();
+        seen.blocks = self.blocks.back().map_or(0, |block| block.height + 1);
+        seen.units = self.added;
         let all = serde_json::json!({
-            "status": self.status, "units": self.units, "blocks": self.blocks, "culprits": self.culprits,
+            "is_first": is_first, "status": self.status, "units": units, "blocks": blocks,
+            "culprits": self.culprits, "map": self.map.rows(self.status.validators),
         });
         all.to_string()
     }

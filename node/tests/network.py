@@ -46,19 +46,40 @@ def free_ports(count):
     return ports
 
 
+class Loopback:
+    """Where the validators of a network live: ports of this machine."""
+
+    def __init__(self, count):
+        self.ports = free_ports(2 * count)
+
+    def before(self, _number):
+        """The words before a command that runs there."""
+        return []
+
+    def listens(self, number):
+        return "127.0.0.1", self.ports[2 * number]
+
+    def page(self, number):
+        return f"127.0.0.1:{self.ports[2 * number + 1]}"
+
+    def close(self):
+        """There is nothing to close."""
+
+
 class Network:
     """Validators that were set up by `keygen` and `init`, each with a process when it is started."""
 
-    def __init__(self, count, *wishes):
+    def __init__(self, count, *wishes, places=None):
         self.room = tempfile.TemporaryDirectory()
         self.folder = Path(self.room.name)
         self.count = count
-        self.ports = free_ports(2 * count)
+        self.places = places or Loopback(count)
         self.running = {}
         public = []
         for number in range(count):
             self.run("keygen", self.folder / f"{number}.key")
-            public.append(f"{self.folder / f'{number}.pub'}@127.0.0.1:{self.ports[2 * number]}")
+            host, port = self.places.listens(number)
+            public.append(f"{self.folder / f'{number}.pub'}@{host}:{port}")
         self.run("init", self.folder / "genesis.toml", *public, *wishes)
         for number in range(count):
             self.set(number)
@@ -76,13 +97,13 @@ class Network:
     def set(self, number, routes=""):
         """Writes the settings of this validator, with other routes to its peers if they are given."""
         text = f'genesis = "genesis.toml"\nkeys = "{number}.key"\nstore = "{number}.sqlite"\n'
-        self.settings(number).write_text(text + f'page = "127.0.0.1:{self.ports[2 * number + 1]}"\n' + routes)
+        self.settings(number).write_text(text + f'page = "{self.places.page(number)}"\n' + routes)
 
-    def start(self, number, *words):
+    def start(self, number, *words, environment=None):
         """Starts this validator."""
         with (self.folder / f"{number}.log").open("a") as log:
-            command = [node_program(), "run", self.settings(number), *words]
-            self.running[number] = subprocess.Popen(command, stderr=log)
+            command = [*self.places.before(number), node_program(), "run", self.settings(number), *words]
+            self.running[number] = subprocess.Popen(command, stderr=log, env=os.environ | (environment or {}))
 
     def start_all(self):
         for number in range(self.count):
@@ -99,19 +120,22 @@ class Network:
     def close(self):
         for number in list(self.running):
             self.end(number, signal.SIGKILL)
+        self.places.close()
         self.room.cleanup()
 
     def get(self, number, path):
         """What the page of this validator says there."""
-        address = f"http://127.0.0.1:{self.ports[2 * number + 1]}{path}"
-        with urllib.request.urlopen(address, timeout=5) as answer:
+        with urllib.request.urlopen(f"http://{self.places.page(number)}{path}", timeout=5) as answer:
             return answer.read()
 
     def view(self, number):
         return json.loads(self.get(number, "/view"))
 
     def status(self, number):
-        return self.view(number)["status"]
+        return json.loads(self.get(number, "/status"))
+
+    def statuses(self):
+        return [self.status(number) for number in self.running]
 
     def wait_until(self, holds, seconds, what):
         """Waits until it holds; pages that don't answer yet don't count."""
@@ -136,6 +160,12 @@ class Network:
         self.run("export", self.settings(number), folder)
         return folder
 
+    def compare(self, left, right):
+        """What the program says of the logs of these two."""
+        logs = [self.export(number) / "network.hwlg" for number in (left, right)]
+        said = subprocess.run([*highway_command(), "audit", *logs], capture_output=True, text=True, timeout=900)
+        return said.stdout.strip() or said.stderr.strip()
+
     def audit(self):
         """Audits the first log against each other one, and the signatures of all. The answers of the audits."""
         folders = [self.export(number) for number in range(self.count)]
@@ -145,9 +175,4 @@ class Network:
             said = subprocess.run(command, capture_output=True, text=True, timeout=300)
             if said.returncode != 0 or " 0 without" not in said.stdout:
                 raise AssertionError(f"lens verify: {said.stdout}{said.stderr}")
-        answers = []
-        for folder in folders[1:]:
-            command = [*highway_command(), "audit", folders[0] / "network.hwlg", folder / "network.hwlg"]
-            said = subprocess.run(command, capture_output=True, text=True, timeout=900)
-            answers.append(said.stdout.strip() or said.stderr.strip())
-        return answers
+        return [self.compare(0, other) for other in range(1, self.count)]

@@ -80,7 +80,7 @@ class Ordinary(Case):
         for me in range(4):
             routes = ""
             for peer in set(range(4)) - {me}:
-                at = [relays.add(network.ports[2 * peer] + one) for one in (0, 1)]
+                at = [relays.add(network.places.listens(peer)[1] + one) for one in (0, 1)]
                 routes += f'[[route]]\nvalidator = {peer}\nvertices = "tcp://127.0.0.1:{at[0]}"\n'
                 routes += f'requests = "tcp://127.0.0.1:{at[1]}"\n'
             network.set(me, routes)
@@ -152,7 +152,7 @@ class Hostile(Case):
         self.run_for(network, 1)
         open_ones = []
         for place in range(200):
-            stranger = socket.create_connection(("127.0.0.1", network.ports[2 * (place % 4)] + place // 4 % 2))
+            stranger = socket.create_connection(("127.0.0.1", network.places.listens(place % 4)[1] + place // 4 % 2))
             self.addCleanup(stranger.close)
             if place % 2:
                 stranger.sendall(random.randbytes(1000))
