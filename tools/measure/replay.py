@@ -71,6 +71,8 @@ GROWTH = {
     "swing": ("swing --validators 10 --rounds {}", (500, 2000, 8000)),
     "falls": ("falls --validators 64 --rounds {}", (3, 12, 48)),
     "falls by validators": ("falls --rounds 3 --validators {}", (32, 128, 512)),
+    "cascade": ("cascade --validators 64 --units {}", (250, 1000, 4000)),
+    "cascade by validators": ("cascade --units 250 --validators {}", (32, 128, 512)),
 }
 
 

@@ -396,12 +396,28 @@ def seen_in_chain(creator, base, leader, validators):
     return [*some, leader, creator, *range(creator + 1, min(creator + 2, validators))]
 
 
+def cascade(options):
+    """Units that all wait for one, and of each other validator cite the latest unit or the one before."""
+    made = Rounds(argparse.Namespace(**{**IN_ORDER, **vars(options), "rounds": 6}))
+    vertices, spell, last = made.run(), made.spell, options.validators - 1
+    end, choice = 8 * ROUND, random.Random(options.seed)
+    root = spell.unit(last, made.sequence[last], end, [*made.before[:last], made.latest[last]])
+    for place in range(options.units):
+        creator = place % last
+        panorama = [choice.choice(pair) for pair in zip(made.latest, made.before)]
+        panorama[last], panorama[creator] = root.name, made.latest[creator]
+        vertices.append(of_unit(spell.unit(creator, made.sequence[creator], end + 1000 + place, panorama)))
+    return made.config, vertices if options.withheld else [*vertices, of_unit(root)]
+
+
 KINDS = {
     kind.__name__: kind
-    for kind in (rounds, lane, solo, fan, needs, missing, endorsements, equivocations, stale, swing, falls)
+    for kind in (rounds, lane, solo, fan, needs, missing, endorsements, equivocations, stale, swing, falls, cascade)
 }
 IN_ROUNDS = {"rounds", "stale", "swing", "falls"}
 IN_ANY_ORDER = {"rounds", "lane", "solo"}
+# The options of rounds in which nothing goes wrong.
+IN_ORDER = {"order": "made", "silent": 0, "heal": 0, "equivocators": 0, "second_lanes": 0, "endorsed": 0, "late": 0.0}
 
 
 def natural(text):
@@ -435,6 +451,8 @@ def add_options(parser, kind):
         parser.add_argument(
             "--order", choices=("made", "reversed", "shuffled"), default="made", help="how they come (made)"
         )
+    if kind == "cascade":
+        parser.add_argument("--withheld", action="store_true", help="the unit that they wait for doesn't come")
     if kind == "rounds":
         told = {
             "--silent": "so many at the end make nothing after the first round",
@@ -461,7 +479,7 @@ def options_of(words):
     """What the words ask for. Words that aren't understood end the program with status 2."""
     parser = parser_of_words()
     options = parser.parse_args(words)
-    least = {"fan": 2, "needs": 2, "swing": 2, "falls": 6}.get(options.kind, 1)
+    least = {"fan": 2, "needs": 2, "swing": 2, "falls": 6, "cascade": 2}.get(options.kind, 1)
     if not least <= options.validators <= 1024:
         parser.error(f"argument --validators: {options.kind} is of {least} to 1,024 validators")
     for name in ("silent", "equivocators", "second_lanes"):

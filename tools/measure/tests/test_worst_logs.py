@@ -194,6 +194,15 @@ class Logs(unittest.TestCase):
         self.assertEqual(seen, {**dict.fromkeys(range(7), 5), 7: 4})
 
 
+    def test_a_cascade_waits_for_its_last_unit(self):
+        units = units_of("cascade --validators 4 --units 9")
+        names = {unit.name for unit in units[:-1]}
+        self.assertEqual(len(units), 6 * (1 + 3 + 4) + 9 + 1)
+        self.assertTrue(all(units[-1].name in unit.cited() for unit in units[-10:-1]))
+        self.assertLessEqual(units[-1].cited(), names)
+        self.assertEqual(len(units_of("cascade --validators 4 --units 9 --withheld")), len(units) - 1)
+
+
 class Words(unittest.TestCase):
     """What is refused."""
 
