@@ -38,9 +38,11 @@ class Config:
     parked: int = 16384
 
     def spelling(self):
-        """Its bytes. Where nothing is said each validator weighs 1, all take turns, and a third may be faulty."""
+        """Its bytes. Where nothing is said each validator weighs 1, all take turns, a third may be faulty, and there is
+        room for as many records as may be."""
         weights = self.weights or (1,) * self.validators
         leaders = self.leaders or tuple(range(self.validators))
+        records = self.records or (131072 if self.validators <= 256 else 32768)
         threshold = (self.validators - 1) // 3 if self.threshold < 0 else self.threshold
         words = [
             big_endian(1, 1),
@@ -50,7 +52,7 @@ class Config:
             bytes([3, EXPONENT, 20, 0]),
             big_endian(len(leaders), 4),
             *(big_endian(leader, 4) for leader in leaders),
-            big_endian(self.records or (131072 if self.validators <= 256 else 32768), 4),
+            big_endian(records, 4),
             big_endian(self.parked, 4),
         ]
         return b"".join(words)

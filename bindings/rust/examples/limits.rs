@@ -1,20 +1,20 @@
 //! What each call costs on the node of a log, in milliseconds: `cargo run --release --example limits -- LOG`. The log is
 //! one of version 1, as `tools/measure/worst_logs.py` writes it.
 
-use highway::{Core, Need, Sent};
+use highway::{Core, Digest, Need, Sent};
 use std::error::Error;
 use std::hint::black_box;
 use std::time::Instant;
 
-/// The longest of three runs, in milliseconds.
+/// The least of three runs, in milliseconds.
 fn timed<T>(name: &str, mut call: impl FnMut() -> T) {
-    let mut most = 0.0_f64;
+    let mut least = f64::MAX;
     for _ in 0..3 {
         let begun = Instant::now();
         black_box(call());
-        most = most.max(begun.elapsed().as_secs_f64() * 1000.0);
+        least = least.min(begun.elapsed().as_secs_f64() * 1000.0);
     }
-    println!("{name:<28} {most:>10.3} ms");
+    println!("{name:<28} {least:>10.3} ms");
 }
 
 /// The configuration of a log, and where its vertices stand.
@@ -36,23 +36,28 @@ fn main() -> Result<(), Box<dyn Error>> {
     let begun = Instant::now();
     let mut core = Core::new(config)?;
     black_box(core.deliver_all(&log, &vertices));
+    println!("{} vertices in {:.1} s", vertices.len(), begun.elapsed().as_secs_f64());
     let mut other = Core::new(config)?;
     black_box(other.deliver_all(&log, &vertices));
     let summary = core.summary()?;
-    println!("{} vertices twice in {:.1} s: {summary:?}", vertices.len(), begun.elapsed().as_secs_f64());
-    let fork = summary.fork.ok_or("there is a fork choice")?;
+    println!("{summary:?}");
+    let fork = summary.fork.unwrap_or(Digest([0; 32]));
     timed("summary", || core.summary());
     timed("observation", || core.observation(0));
     timed("faulty", || core.faulty());
     timed("place", || core.place(fork));
     timed("unit", || core.unit(fork));
     timed("decisions_from(0)", || core.decisions_from(0).count());
-    timed("unmet(64)", || core.unmet(64));
-    timed("unmet(1024)", || core.unmet(1024));
+    for room in [64, 256, 1_024] {
+        timed(&format!("unmet({room})"), || core.unmet(room));
+    }
     timed("for_need, a unit", || core.for_need(Need::Unit(fork)));
     timed("for_need, evidence", || core.for_need(Need::Evidence(0)));
-    timed("due", || core.due(0, 1 << 40));
-    timed("next_unit", || core.next_unit(0, 1 << 40, b""));
+    // The leader of the next round has a block to propose.
+    let now = core.unit(fork)?.map_or(0, |block| block.round + (1 << block.exponent));
+    let leader = core.due(0, now)?.leader;
+    timed("due, for the leader", || core.due(leader, now));
+    timed("next_unit, for the leader", || core.next_unit(leader, now, b""));
     timed("audit", || core.audit(&other));
     let Some(last) = summary.decided.checked_sub(1) else { return Ok(()) };
     timed("certificate", || core.certificate(last));

@@ -59,20 +59,22 @@ pub struct Settings {
 }
 
 impl Settings {
-    /// Settings of validators with these weights, to be changed as a host wants: no fault tolerance, one level,
-    /// rounds of 1,024 milliseconds, leaders drawn by a key of zeros, as much room as 256 validators may have, no end.
+    /// Settings of validators with these weights, to be changed as a host wants: the greatest tolerance that is less
+    /// than a third of the total, three levels, rounds of 1,024 milliseconds, leaders drawn by a key of zeros, as much
+    /// room as 256 validators may have, no end.
     ///
     /// ```
     /// use highway::Settings;
     ///
     /// let settings = Settings::of_weights(vec![4, 3, 3]);
-    /// assert_eq!((settings.fault_tolerance, settings.levels, settings.end), (0, 1, None));
+    /// assert_eq!((settings.fault_tolerance, settings.levels, settings.end), (3, 3, None));
     /// ```
     pub fn of_weights(weights: Vec<u64>) -> Settings {
+        let total = weights.iter().fold(0, |sum: u64, weight| sum.saturating_add(*weight));
         Settings {
             weights,
-            fault_tolerance: 0,
-            levels: 1,
+            fault_tolerance: total.saturating_sub(1) / 3,
+            levels: 3,
             min_exponent: 10,
             max_exponent: 20,
             leaders: Leaders::Drawn([0; 32]),
