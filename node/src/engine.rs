@@ -10,7 +10,9 @@ use crate::parcel::Parcel;
 use crate::quota::Quota;
 use crate::request::{Answer, Latest, Question, Request};
 use crate::store::{Store, Stored};
-use highway::{Core, Decision, Detached, Need, Place, PlanKind, Receipt, Sent, Signatures, Summary, Task, Unit};
+use highway::{
+    Core, Decision, Detached, Digest, Need, Place, PlanKind, Receipt, Sent, Signature, Signatures, Summary, Task, Unit,
+};
 use std::collections::{BTreeSet, HashSet};
 
 /// An answer has no more vertices, and no more bytes.
@@ -84,7 +86,12 @@ impl Engine {
             let Some((last, _)) = stored.last() else { break };
             place = *last;
             done += stored.len() as u64;
-            let stored: Vec<Stored> = stored.into_iter().map(|(_, stored)| stored).collect();
+            let mut stored: Vec<Stored> = stored.into_iter().map(|(_, stored)| stored).collect();
+            for one in &mut stored {
+                if let Signatures::Unit(signed) = Signatures::of(&one.parcel.vertex)? {
+                    one.unit = Some(signed.unit);
+                }
+            }
             self.deliver(&stored)?;
             tracing::info!(done, all, "the store is replayed");
         }
@@ -94,7 +101,7 @@ impl Engine {
     /// Delivers vertices, and notes those that the core took. It answers each.
     fn deliver(&mut self, vertices: &[Stored]) -> Result<Vec<Result<Receipt, highway::Refusal>>, Error> {
         let (mut bytes, mut sent) = (Vec::new(), Vec::new());
-        for Stored { parcel, verdict } in vertices {
+        for Stored { parcel, verdict, .. } in vertices {
             let start = bytes.len();
             bytes.extend(&parcel.vertex);
             sent.push(Sent { part: start..bytes.len(), verdict: *verdict });
@@ -103,7 +110,7 @@ impl Engine {
         let answers = self.core.deliver_all(&bytes, &sent);
         for (stored, answer) in vertices.iter().zip(&answers) {
             if matches!(answer, Ok(receipt) if *receipt != Receipt::Repeat) {
-                self.note(&stored.parcel, place)?;
+                self.note(stored, place)?;
                 place += 1;
             }
         }
@@ -111,13 +118,12 @@ impl Engine {
     }
 
     /// Notes a vertex that stands at this place of the journal.
-    fn note(&mut self, parcel: &Parcel, place: u64) -> Result<(), Error> {
-        for signature in &parcel.signatures {
+    fn note(&mut self, stored: &Stored, place: u64) -> Result<(), Error> {
+        for signature in &stored.parcel.signatures {
             self.signatures.put(signature);
         }
-        if let Signatures::Unit(one) = Signatures::of(&parcel.vertex)?
-            && let Some(unit) = self.core.unit(one.unit)?
-        {
+        let Some(unit) = stored.unit else { return Ok(()) };
+        if let Some(unit) = self.core.unit(unit)? {
             self.lanes.note(unit.creator, unit.seq, place, unit.digest);
             self.quota.note(unit.creator, unit.digest, self.core.place(unit.digest)?);
         }
@@ -158,10 +164,10 @@ impl Engine {
     ) -> Result<Vec<Outcome>, Error> {
         let (mut outcomes, mut places, mut good) = (Vec::new(), Vec::new(), Vec::new());
         for parcel in parcels {
-            let outcome = self.screen(&parcel, wanted, now, application)?;
+            let (outcome, unit) = self.screen(&parcel, wanted, now, application)?;
             if outcome == Outcome::Taken {
                 places.push(outcomes.len());
-                good.push(Stored { parcel, verdict: true });
+                good.push(Stored { parcel, verdict: true, unit });
             }
             outcomes.push(outcome);
         }
@@ -185,38 +191,48 @@ impl Engine {
         self.store.put(&self.pending)?;
         let mut units = Vec::new();
         for stored in std::mem::take(&mut self.pending) {
-            if let Signatures::Unit(one) = Signatures::of(&stored.parcel.vertex)? {
-                units.extend(self.core.unit(one.unit)?);
+            if let Some(unit) = stored.unit {
+                units.extend(self.core.unit(unit)?);
             }
         }
         Ok(Some(units))
     }
 
-    /// What is said of a vertex before the core sees it: taken, if the core may.
+    /// What is said of a vertex before the core sees it: taken, if the core may; and which unit it is, if it is one.
     fn screen(
         &mut self,
         parcel: &Parcel,
         wanted: &HashSet<Need>,
         now: u64,
         application: &mut dyn Application,
-    ) -> Result<Outcome, Error> {
-        let Ok(signed) = Signatures::of(&parcel.vertex) else { return Ok(Outcome::Junk) };
+    ) -> Result<(Outcome, Option<Digest>), Error> {
+        let Some((signed, unit)) = self.read(&parcel.vertex) else { return Ok((Outcome::Junk, None)) };
+        let name = unit.as_ref().map(|unit| unit.digest);
         if let Some(outcome) = self.is_passed_over(&signed, wanted)? {
-            return Ok(outcome);
+            return Ok((outcome, name));
         }
         if !parcel.is_right(&self.network.keys, &signed) {
-            return Ok(Outcome::Junk);
+            return Ok((Outcome::Junk, name));
         }
-        let Some(unit) = self.core.read_unit(&parcel.vertex)? else { return Ok(Outcome::Taken) };
-        if unit.time < self.network.genesis.begin() {
-            return Ok(Outcome::Junk);
-        }
-        if unit.time > now.saturating_add(EARLY) {
-            return Ok(Outcome::Unwanted);
-        }
-        match unit.value {
-            Some(value) if !application.is_valid(unit.creator, &value)? => Ok(Outcome::Invalid),
-            _ => Ok(Outcome::Taken),
+        let outcome = match unit {
+            Some(unit) if unit.time < self.network.genesis.begin() => Outcome::Junk,
+            Some(unit) if unit.time > now.saturating_add(EARLY) => Outcome::Unwanted,
+            Some(Unit { creator, value: Some(value), .. }) if !application.is_valid(creator, &value)? => {
+                Outcome::Invalid
+            }
+            _ => Outcome::Taken,
+        };
+        Ok((outcome, name))
+    }
+
+    /// Who signed what in a vertex, and the unit, where it is one: by one hash of it, which is what costs.
+    fn read(&self, vertex: &[u8]) -> Option<(Signatures, Option<Unit>)> {
+        match self.core.read_unit(vertex).ok()? {
+            Some(unit) => {
+                let signed = Signature { validator: unit.creator, unit: unit.digest, signature: *vertex.last_chunk()? };
+                Some((Signatures::Unit(signed), Some(unit)))
+            }
+            None => Some((Signatures::of(vertex).ok()?, None)),
         }
     }
 
@@ -256,8 +272,9 @@ impl Engine {
         let signature = self.signatures.get(&slot).map(<[u8]>::to_vec).unwrap_or_default();
         let parcel = Parcel { vertex: plan.signed(&slot)?, signatures: vec![signature] };
         self.core.deliver(&parcel.vertex, true).map_err(highway::Error::from)?;
-        self.note(&parcel, journal)?;
-        self.pending.push(Stored { parcel: parcel.clone(), verdict: true });
+        let stored = Stored { parcel: parcel.clone(), verdict: true, unit: Some(plan.digest()) };
+        self.note(&stored, journal)?;
+        self.pending.push(stored);
         Ok(Step::Made(parcel))
     }
 
@@ -284,7 +301,11 @@ impl Engine {
 
     /// A vertex of the journal with its signatures.
     fn parcel(&self, vertex: Vec<u8>) -> Result<Option<Parcel>, Error> {
-        let signatures = self.signatures.of_vertex(&vertex)?;
+        // The slot of a signed unit is its end. Of another vertex the library says where its slots are.
+        let signatures = match (vertex.first(), vertex.last_chunk()) {
+            (Some(1), Some(slot)) => self.signatures.get(slot).map(|one| vec![one]),
+            _ => self.signatures.of_vertex(&vertex)?,
+        };
         let signatures = signatures.map(|all| all.into_iter().map(<[u8]>::to_vec).collect());
         Ok(signatures.map(|signatures| Parcel { vertex, signatures }))
     }

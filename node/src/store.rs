@@ -6,6 +6,7 @@
 use crate::error::Error;
 use crate::hex;
 use crate::parcel::Parcel;
+use highway::Digest;
 use rusqlite::{Connection, OpenFlags, params};
 use std::fs::File;
 use std::path::{Path, PathBuf};
@@ -22,12 +23,21 @@ pub struct Store {
 pub struct Stored {
     pub parcel: Parcel,
     pub verdict: bool,
+    /// The unit that it is, where it is one and somebody has worked that out: it costs a hash of the whole vertex.
+    pub unit: Option<Digest>,
 }
 
 const TABLES: &str = "
     CREATE TABLE IF NOT EXISTS network (instance TEXT NOT NULL, validator INTEGER NOT NULL);
     CREATE TABLE IF NOT EXISTS vertex (
         place INTEGER PRIMARY KEY, verdict INTEGER NOT NULL, bytes BLOB NOT NULL, signatures BLOB NOT NULL);
+";
+
+/// Makes the write-ahead log as long as it becomes before it begins again, and the file longer too. A commit then writes
+/// over what is there: to sync that is cheaper than to sync a file that grows, and above all never takes long.
+const ROOM: &str = "
+    BEGIN; CREATE TABLE room (bytes BLOB NOT NULL); INSERT INTO room VALUES (zeroblob(4194304)); COMMIT;
+    DROP TABLE room; PRAGMA wal_checkpoint(RESTART);
 ";
 
 impl Store {
@@ -38,6 +48,7 @@ impl Store {
         connection.pragma_update(None, "journal_mode", "WAL")?;
         connection.pragma_update(None, "synchronous", "FULL")?;
         connection.execute_batch(TABLES)?;
+        connection.execute_batch(ROOM)?;
         let store = Store { connection, commits: 0, _lock: Some(lock) };
         store.check(path, instance, me)?;
         Ok(store)
@@ -75,7 +86,7 @@ impl Store {
         {
             let mut insert =
                 transaction.prepare_cached("INSERT INTO vertex (verdict, bytes, signatures) VALUES (?1, ?2, ?3)")?;
-            for Stored { parcel, verdict } in vertices {
+            for Stored { parcel, verdict, .. } in vertices {
                 insert.execute(params![verdict, parcel.vertex, parcel.beside()])?;
             }
         }
@@ -94,7 +105,7 @@ impl Store {
             let place: i64 = row.get(0)?;
             let parcel = Parcel::of_parts(row.get(2)?, &row.get::<_, Vec<u8>>(3)?);
             let parcel = parcel.ok_or_else(|| Error::Process(format!("the store: no signatures in row {place}")))?;
-            found.push((place, Stored { parcel, verdict: row.get(1)? }));
+            found.push((place, Stored { parcel, verdict: row.get(1)?, unit: None }));
         }
         Ok(found)
     }

@@ -32,8 +32,8 @@ def highway_command():
 
 
 def free_ports(count):
-    """So many ports that nobody uses now, in pairs that follow each other."""
-    ports, first = [], 20000 + os.getpid() % 20000
+    """So many ports that nobody uses now, in pairs that follow each other. The system gives others to who connects."""
+    ports, first = [], 10000 + os.getpid() % 8000 * 2
     while len(ports) < count:
         first += 2
         try:
@@ -150,9 +150,9 @@ class Network:
         raise AssertionError(f"not within {seconds} s: {what}\n{self.last_lines()}")
 
     def last_lines(self):
-        """The end of each log."""
-        logs = sorted(self.folder.glob("*.log"))
-        return "\n".join(f"{log.name}: " + "\n".join(log.read_text().splitlines()[-3:]) for log in logs)
+        """The end of each log, or of some that have trouble where there are many."""
+        ends = [f"{log.name}: " + "\n".join(log.read_text().splitlines()[-2:]) for log in sorted(self.folder.glob("*.log"))]
+        return "\n".join(sorted(ends, key=lambda end: " INFO " in end.splitlines()[-1])[:8])
 
     def export(self, number):
         """The folder of this validator's log."""
