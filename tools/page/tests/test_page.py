@@ -1,6 +1,8 @@
 """The page as a person uses it, in Chromium without a window: files are set into its input, and its texts are held
 against the program's, and against an independent reference's answers."""
 
+import contextlib
+import io
 import random
 import re
 import shutil
@@ -10,7 +12,9 @@ from dataclasses import replace
 from pathlib import Path
 
 from lens.log import SignedUnit, digest_of, is_signed, read_keys, read_log, spelled_log, with_digest
+from lens.main import main
 from page.main import MOST, page
+from page.tests.given import program
 from page.tests.on_page import CASES, DATA, LOGS, OnPage, stored
 from view.parts import policy
 
@@ -196,6 +200,12 @@ class AsAPerson(OnPage):
         keys = read_keys(DATA / "three.keys")
         self.assertTrue(is_signed(pair, keys))
         self.assertIn("\nfaulty 1\n", self.said("replay", kept))
+        # The lens writes the same file.
+        out = Path(self.room.name, "pairs.hwlg")
+        words = ["evidence", DATA / "signed.hwlg", DATA / "signed-other.hwlg", "--out", out, "--program", program()]
+        with contextlib.redirect_stdout(io.StringIO()):
+            self.assertEqual(main([str(word) for word in words]), 0)
+        self.assertEqual(out.read_bytes(), kept.read_bytes())
 
     def test_false_verdicts_are_listed(self):
         self.dropped("replay", DATA / "four.hwlg", DATA / "three.keys")
