@@ -206,6 +206,9 @@ impl Engine {
         now: u64,
         application: &mut dyn Application,
     ) -> Result<(Outcome, Option<Digest>), Error> {
+        if self.signature_of(&parcel.vertex).is_some() {
+            return Ok((Outcome::Repeat, None));
+        }
         let Some((signed, unit)) = self.read(&parcel.vertex) else { return Ok((Outcome::Junk, None)) };
         let name = unit.as_ref().map(|unit| unit.digest);
         if let Some(outcome) = self.is_passed_over(&signed, wanted)? {
@@ -223,6 +226,12 @@ impl Engine {
             _ => Outcome::Taken,
         };
         Ok((outcome, name))
+    }
+
+    /// The signature whose slot is the end of this signed unit, where it is here. A signature signs no second unit.
+    fn signature_of(&self, vertex: &[u8]) -> Option<&[u8]> {
+        let slot = vertex.last_chunk().filter(|_| vertex.first() == Some(&1))?;
+        self.signatures.get(slot)
     }
 
     /// Who signed what in a vertex, and the unit, where it is one: by one hash of it, which is what costs.
@@ -243,7 +252,9 @@ impl Engine {
             Signatures::Unit(one) if self.core.place(one.unit)? != Place::Unknown => Some(Outcome::Repeat),
             Signatures::Unit(one) if wanted.contains(&Need::Unit(one.unit)) => None,
             Signatures::Unit(one) => {
-                let has_room = self.quota.has_room(one.validator, |unit| self.core.place(unit))?;
+                // The own ones, which a lost store had, are never passed over: without them this validator would equivocate.
+                let is_own = one.validator == self.me;
+                let has_room = is_own || self.quota.has_room(one.validator, |unit| self.core.place(unit))?;
                 unless(has_room && !self.faulty.contains(&one.validator))
             }
             Signatures::Evidence(one, _) if self.faulty.contains(&one.validator) => Some(Outcome::Repeat),
@@ -301,10 +312,10 @@ impl Engine {
 
     /// A vertex of the journal with its signatures.
     fn parcel(&self, vertex: Vec<u8>) -> Result<Option<Parcel>, Error> {
-        // The slot of a signed unit is its end. Of another vertex the library says where its slots are.
-        let signatures = match (vertex.first(), vertex.last_chunk()) {
-            (Some(1), Some(slot)) => self.signatures.get(slot).map(|one| vec![one]),
-            _ => self.signatures.of_vertex(&vertex)?,
+        // What the library says costs a hash of the vertex.
+        let signatures = match self.signature_of(&vertex) {
+            Some(one) => Some(vec![one]),
+            None => self.signatures.of_vertex(&vertex)?,
         };
         let signatures = signatures.map(|all| all.into_iter().map(<[u8]>::to_vec).collect());
         Ok(signatures.map(|signatures| Parcel { vertex, signatures }))

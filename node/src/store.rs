@@ -36,7 +36,7 @@ const TABLES: &str = "
 /// Makes the write-ahead log as long as it becomes before it begins again, and the file longer too. A commit then writes
 /// over what is there: to sync that is cheaper than to sync a file that grows, and above all never takes long.
 const ROOM: &str = "
-    BEGIN; CREATE TABLE room (bytes BLOB NOT NULL); INSERT INTO room VALUES (zeroblob(4194304)); COMMIT;
+    BEGIN; CREATE TABLE IF NOT EXISTS room (bytes BLOB NOT NULL); INSERT INTO room VALUES (zeroblob(4194304)); COMMIT;
     DROP TABLE room; PRAGMA wal_checkpoint(RESTART);
 ";
 

@@ -85,7 +85,7 @@ def steady(count, exponent, seconds, places=None, latency=1.5):
     """Every round's block is final at every node, with less than that median latency."""
     with network_of(count, "--exponents", f"{exponent},20", places=places and places()) as network:
         network.start_all()
-        all_decide(network)
+        all_decide(network, 10)
         seen = look(network, seconds)
         return not any(seen[1]) and statistics.median(seen[2]) < latency, told(*seen)
 
