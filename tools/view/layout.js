@@ -3,7 +3,7 @@
 export const LABEL = 128, HEAD = 40;
 const LANES_FEW = 24, TRACKS_APART = 6, LEAD = 20, EMPTY = 54, ROUND_WIDE = 130, WIDEST = 30_000, COLOURS = 6, LETTERS = 26, MARKS_MOST = 3;
 const FEW = { high: 20, letter: 6.6, cite: 36, gap: 14, track: 30, tag: 13, least: 50 };
-const MANY = { high: 13, letter: 5.4, cite: 20, gap: 5, track: 17, tag: 11, least: 17 };
+const MANY = { high: 13, letter: 5.4, cite: 20, gap: 5, track: 17, tag: 15, least: 17 };
 
 /** Sizes of units and lanes: smaller ones where there are many lanes. */
 export const sizesFor = (lanes) => (lanes > LANES_FEW ? MANY : FEW);
