@@ -193,7 +193,6 @@ class Logs(unittest.TestCase):
         seen = {unit.creator: len(unit.cited()) for unit in units if unit.sequence == 1}
         self.assertEqual(seen, {**dict.fromkeys(range(7), 5), 7: 4})
 
-
     def test_a_cascade_waits_for_its_last_unit(self):
         units = units_of("cascade --validators 4 --units 9")
         names = {unit.name for unit in units[:-1]}
